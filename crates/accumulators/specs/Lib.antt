@@ -1,0 +1,2 @@
+pub mod Accumulators
+pub mod Belonging

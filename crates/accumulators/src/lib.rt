@@ -1,0 +1,4 @@
+// Accumulators: a running partial of any aggregate.
+mod accumulator;
+
+pub use accumulator::Accumulator;

@@ -1,0 +1,5 @@
+pub mod Cached
+pub mod Refusals
+pub mod Same
+pub mod Types
+pub mod Values

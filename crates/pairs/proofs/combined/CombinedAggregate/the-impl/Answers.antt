@@ -1,0 +1,10 @@
+use Rattle.pairs.proofs.Lives.{answer-lives}
+use Rattle.pairs.proofs.Paired.{pair-lawful}
+use Rattle.pairs.proofs.combined.CombinedAggregate.the-impl.Needs as need
+
+pub lawful-law : need.lawful-law
+lawful-law g = pair-lawful (g .L·AggregateFn .model) (g .R·AggregateFn .model) (g .F·CombineAnswers .answers) (g .L·AggregateFn·met .lawful) (g .R·AggregateFn·met .lawful)
+
+pub Self·Answer·lives : need.Self·Answer·lives
+Self·Answer·lives g =
+    answer-lives (g .L .lives) (g .R .lives) (g .F .lives) (g .L·Answer .lives) (g .R·Answer .lives) (g .F·Answer .lives) (g .L·AggregateFn·met .Self·Answer·lives) (g .R·AggregateFn·met .Self·Answer·lives) (g .F·CombineAnswers·met .Self·Answer·lives)

@@ -1,0 +1,4 @@
+mod Bytes
+mod Fills
+mod SiteColumns
+mod Reporting

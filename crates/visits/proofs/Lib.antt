@@ -1,0 +1,7 @@
+mod Cutting
+mod Ends
+mod Headed
+mod Lining
+mod Listed
+mod Parsed
+mod Sited
