@@ -1,4 +1,6 @@
 // Accumulators, each a running partial of any aggregate, and the board, a row of them.
+#![tactic(auto)]
+
 mod accumulator;
 mod board;
 mod sites;

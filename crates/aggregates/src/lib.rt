@@ -1,4 +1,6 @@
 // What an aggregate is, and the aggregates Sum and Count.
+#![tactic(auto)]
+
 mod aggregate;
 mod count;
 mod guard;

@@ -1,4 +1,6 @@
 // The sum of a column, what it says of the column's exact total, and the number of valid entries.
+#![tactic(auto)]
+
 mod add;
 mod count;
 mod laws;

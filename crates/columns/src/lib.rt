@@ -1,4 +1,6 @@
 // Columns by their meaning: validity bitmaps, stretches, and the kinds of columns.
+#![tactic(auto)]
+
 mod bitmap;
 mod column;
 mod constant;

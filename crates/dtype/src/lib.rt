@@ -1,4 +1,6 @@
 // Number types, dtypes, values, scalars, statistics records and refusals.
+#![tactic(auto)]
+
 mod precision;
 mod ptype;
 mod refusal;

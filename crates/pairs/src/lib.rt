@@ -1,4 +1,6 @@
 // Pairs of aggregates.
+#![tactic(auto)]
+
 mod answers;
 mod combined;
 mod options;

@@ -1,4 +1,6 @@
 // What a site of a new board reads after any list of calls, in plain totals.
+#![tactic(auto)]
+
 mod after;
 mod reported;
 mod totals;

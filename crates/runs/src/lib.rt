@@ -1,4 +1,6 @@
 // Lists of calls on a board, and what holds after every call of a list.
+#![tactic(auto)]
+
 mod call;
 mod list;
 mod one;

@@ -1,4 +1,6 @@
 // Checked sums of slices, and the state of a running sum.
+#![tactic(auto)]
+
 mod checked;
 mod chunk;
 mod float;
