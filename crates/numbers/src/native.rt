@@ -1,4 +1,4 @@
-ghost use Rattle.std.specs.Prelude.{◌≡◌, ◌^◌, ◌<◌, true, FitsSigned};
+ghost use Rattle.std.specs.Prelude.{◌≡◌, ◌^◌, ◌<◌, true, FitsSigned, refl};
 ghost use Rattle.std.specs.Int.{w32};
 ghost use Rattle.dtype.specs.declared.ptype.PType.{PType as Kind};
 ghost use Rattle.dtype.specs.declared.ptype.PType.TheVariants as p;
@@ -6,7 +6,6 @@ ghost use Rattle.dtype.specs.declared.value.Value.{Value as Held};
 ghost use Rattle.dtype.specs.declared.value.Value.TheVariants as v;
 ghost use Rattle.dtype.specs.Types.{narrow};
 ghost use Rattle.dtype.specs.Values.{kind_of, nat_of, int_of, float_of, nan_value};
-ghost use Rattle.std.proofs.Common.{rules};
 
 use dtype::{PType, Value};
 use std::num::f32_to_f64_with_nan;
@@ -54,7 +53,7 @@ impl NativePType for u8 {
 
     ghost held = { λ x. v.U8 x };
 
-    ghost typed = { Prim.search rules };
+    ghost typed = { λ x. refl };
 
     fn ptype() -> PType {
         PType::U8
@@ -80,7 +79,7 @@ impl NativePType for u16 {
 
     ghost held = { λ x. v.U16 x };
 
-    ghost typed = { Prim.search rules };
+    ghost typed = { λ x. refl };
 
     fn ptype() -> PType {
         PType::U16
@@ -106,7 +105,7 @@ impl NativePType for u32 {
 
     ghost held = { λ x. v.U32 x };
 
-    ghost typed = { Prim.search rules };
+    ghost typed = { λ x. refl };
 
     fn ptype() -> PType {
         PType::U32
@@ -132,7 +131,7 @@ impl NativePType for u64 {
 
     ghost held = { λ x. v.U64 x };
 
-    ghost typed = { Prim.search rules };
+    ghost typed = { λ x. refl };
 
     fn ptype() -> PType {
         PType::U64
@@ -158,7 +157,7 @@ impl NativePType for i8 {
 
     ghost held = { λ x. v.I8 x };
 
-    ghost typed = { Prim.search rules };
+    ghost typed = { λ x. refl };
 
     fn ptype() -> PType {
         PType::I8
@@ -184,7 +183,7 @@ impl NativePType for i16 {
 
     ghost held = { λ x. v.I16 x };
 
-    ghost typed = { Prim.search rules };
+    ghost typed = { λ x. refl };
 
     fn ptype() -> PType {
         PType::I16
@@ -210,7 +209,7 @@ impl NativePType for i32 {
 
     ghost held = { λ x. v.I32 x };
 
-    ghost typed = { Prim.search rules };
+    ghost typed = { λ x. refl };
 
     fn ptype() -> PType {
         PType::I32
@@ -236,7 +235,7 @@ impl NativePType for i64 {
 
     ghost held = { λ x. v.I64 x };
 
-    ghost typed = { Prim.search rules };
+    ghost typed = { λ x. refl };
 
     fn ptype() -> PType {
         PType::I64
@@ -262,7 +261,7 @@ impl NativePType for f32 {
 
     ghost held = { λ x. v.F32 x };
 
-    ghost typed = { Prim.search rules };
+    ghost typed = { λ x. refl };
 
     fn ptype() -> PType {
         PType::F32
@@ -288,7 +287,7 @@ impl NativePType for f64 {
 
     ghost held = { λ x. v.F64 x };
 
-    ghost typed = { Prim.search rules };
+    ghost typed = { λ x. refl };
 
     fn ptype() -> PType {
         PType::F64
