@@ -9,7 +9,7 @@ returns-then-at-sites g c =
 
 pub returns : goal.returns
 returns g c =
-    let e = c.combine-partials.ensures in
+    let e = c.combine_partials.ensures in
     let answer = sym e.answer in
     let after = sym e.after in
     ap (board_combined g.V.AggregateFn.model c.args.scalar c.args.sites.now c.args.at) (slice_get-get_or c.args.sites.now c.args.at c.index-sites-at.result c.if-at-sites.false)

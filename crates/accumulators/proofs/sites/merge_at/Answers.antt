@@ -23,4 +23,4 @@ returns g c =
     two_sites m row i j c.index-sites-into.result c.index-sites-from.result c.if-into-sites.false c.if-from-sites.false c.if-into-from.false
     ∙ ap (λ p. accepted m (set (set row j (with_partial b p)) i (merged_into m (get_or (set row j (with_partial b p)) i c.index-sites-into.result) b.partial))) (sym t.after)
     ∙ ap (λ q. accepted m (set (set row j (with_partial b c.take-other.new.self)) i (merged_into m (get_or (set row j (with_partial b c.take-other.new.self)) i c.index-sites-into.result) q))) (sym t.value)
-    ∙ ap (λ a. accepted m (set (set row j (with_partial b c.take-other.new.self)) i a)) (sym c.fold-taken.ensures)
+    ∙ ap (λ a. accepted m (set (set row j (with_partial b c.take-other.new.self)) i a)) (sym c.fold_taken.ensures)

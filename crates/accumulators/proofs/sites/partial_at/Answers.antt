@@ -11,6 +11,6 @@ returns-then-at-sites g c = record {
 
 pub returns : goal.returns
 returns g c = record {
-  answer = ap Ok c.partial-scalar.ensures ∙ sym (ap (site_scalar g.V.AggregateFn.model) (slice_get-get_or c.args.sites.now c.args.at c.index-sites-at.result c.if-at-sites.false));
+  answer = ap Ok c.partial_scalar.ensures ∙ sym (ap (site_scalar g.V.AggregateFn.model) (slice_get-get_or c.args.sites.now c.args.at c.index-sites-at.result c.if-at-sites.false));
   same = refl;
 }

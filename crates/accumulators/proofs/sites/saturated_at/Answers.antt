@@ -11,6 +11,6 @@ returns-then-at-sites g c = record {
 
 pub returns : goal.returns
 returns g c = record {
-  answer = ap Ok c.is-saturated.ensures ∙ sym (ap (site_saturated g.V.AggregateFn.model) (slice_get-get_or c.args.sites.now c.args.at c.index-sites-at.result c.if-at-sites.false));
+  answer = ap Ok c.is_saturated.ensures ∙ sym (ap (site_saturated g.V.AggregateFn.model) (slice_get-get_or c.args.sites.now c.args.at c.index-sites-at.result c.if-at-sites.false));
   same = refl;
 }

@@ -10,4 +10,4 @@ nullable t = record { ptype = t; nullable = true }
 pub returns-in-None : goal.returns-in-None
 unfolding nullable
 returns-in-None c =
-    is_null_scalar c.args.dtype c.args.current c.null.result c.in-None.is (c.null.ensures.0 ∙ ap (λ (d : DType). nullable d.ptype) c.sum-dtype.ensures) c.null.ensures.1
+    is_null_scalar c.args.dtype c.args.current c.null.result c.in-None.is (c.null.ensures.0 ∙ ap (λ (d : DType). nullable d.ptype) c.sum_dtype.ensures) c.null.ensures.1

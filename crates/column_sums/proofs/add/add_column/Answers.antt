@@ -22,35 +22,35 @@ loop-stretch-preserved g c =
     let s = c.in-Some.stretch in
     let f = c.in-Some.ensures in
     let i = c.loop-stretch.invariant in (
-      fresh_end m c.args.skip-nans good s.start s.end f.run,
-      ap (add_from m c.args.skip-nans s.end) c.in-Some-add-stretch.ensures
-          ∙ sym (add_next m c.args.skip-nans good c.loop-stretch.from s c.loop-stretch.total i.0 f)
+      fresh_end m c.args.skip_nans good s.start s.end f.run,
+      ap (add_from m c.args.skip_nans s.end) c.in-Some-add_stretch.ensures
+          ∙ sym (add_next m c.args.skip_nans good c.loop-stretch.from s c.loop-stretch.total i.0 f)
           ∙ i.1,
     )
 
-pub returns-in-default-add-stretch : goal.returns-in-default-add-stretch
-returns-in-default-add-stretch g c =
+pub returns-in_default-add_stretch : goal.returns-in_default-add_stretch
+returns-in_default-add_stretch g c =
     let m = g.C.Column.meaning c.args.column.now in
     let good = g.C.Column.proper c.args.column.now in
     let s = c.in-Some.stretch in
     let f = c.in-Some.ensures in
     let i = c.loop-stretch.invariant in
     let fits : StateFits c.args.state = search rules in
-    let e : None ≡ column_sum m c.args.skip-nans c.args.state =
+    let e : None ≡ column_sum m c.args.skip_nans c.args.state =
     sym (
-    sym (add_start m c.args.skip-nans good c.args.state) ∙ sym i.1
-    ∙ add_next m c.args.skip-nans good c.loop-stretch.from s c.loop-stretch.total i.0 f
-    ∙ ap (add_from m c.args.skip-nans s.end) (sym c.in-default-add-stretch.ensures)
-    ∙ overflow_stays m c.args.skip-nans good s.end
+    sym (add_start m c.args.skip_nans good c.args.state) ∙ sym i.1
+    ∙ add_next m c.args.skip_nans good c.loop-stretch.from s c.loop-stretch.total i.0 f
+    ∙ ap (add_from m c.args.skip_nans s.end) (sym c.in_default-add_stretch.ensures)
+    ∙ overflow_stays m c.args.skip_nans good s.end
     ) in
-    record { steps = e; exact = column_total m c.args.skip-nans c.args.state None fits e }
+    record { steps = e; exact = column_total m c.args.skip_nans c.args.state None fits e }
 
-pub returns-in-default : goal.returns-in-default
-returns-in-default g c =
+pub returns-in_default : goal.returns-in_default
+returns-in_default g c =
     let m = g.C.Column.meaning c.args.column.now in
     let good = g.C.Column.proper c.args.column.now in
     let fits : StateFits c.args.state = search rules in
-    let e : Some c.loop-stretch.total ≡ column_sum m c.args.skip-nans c.args.state =
-    sym (add_none m c.args.skip-nans good c.loop-stretch.from c.loop-stretch.total c.loop-stretch.invariant.0 c.in-default.ensures)
-    ∙ c.loop-stretch.invariant.1 ∙ add_start m c.args.skip-nans good c.args.state in
-    record { steps = e; exact = column_total m c.args.skip-nans c.args.state (Some c.loop-stretch.total) fits e }
+    let e : Some c.loop-stretch.total ≡ column_sum m c.args.skip_nans c.args.state =
+    sym (add_none m c.args.skip_nans good c.loop-stretch.from c.loop-stretch.total c.loop-stretch.invariant.0 c.in_default.ensures)
+    ∙ c.loop-stretch.invariant.1 ∙ add_start m c.args.skip_nans good c.args.state in
+    record { steps = e; exact = column_total m c.args.skip_nans c.args.state (Some c.loop-stretch.total) fits e }

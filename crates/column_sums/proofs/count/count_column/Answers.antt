@@ -26,4 +26,4 @@ returns g c =
     let m = g.C.Column.meaning c.args.column.now in
     let good = g.C.Column.proper c.args.column.now in
     let i = c.loop-stretch.invariant in
-    omega (arith, count_none m good c.loop-stretch.from i.0 c.in-default.ensures, i.2)
+    omega (arith, count_none m good c.loop-stretch.from i.0 c.in_default.ensures, i.2)

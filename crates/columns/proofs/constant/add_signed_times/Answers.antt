@@ -13,22 +13,22 @@ as_read acc p fa fp = let a = to_z-of_z w64 acc fa in let b = to_z-of_z w64 p fp
 product_as_read : (x : ℤ) (n : ℕ) → SFits w64 x → checked signed64 (to_z w64 (of_z w64 x) *ℤ pos n) ≡ checked signed64 (x *ℤ pos n)
 product_as_read x n f = ap (λ z. checked signed64 (z *ℤ pos n)) (to_z-of_z w64 x f)
 
-pub returns-in-err-sum : goal.returns-in-err-sum
-returns-in-err-sum c =
+pub returns-in_err-sum : goal.returns-in_err-sum
+returns-in_err-sum c =
     let acc = c.in-Signed.acc in
-    let p = c.in-ok-product.product in
+    let p = c.in_ok-product.product in
     let fa : SFits w64 acc = search rules in
     let fp : SFits w64 p = search rules in
-    c.from-residual-in-err-sum.ensures
-    ∙ signed_times_lem c.args.x acc p c.args.n c.args.state None c.in-Signed.is (c.in-ok-product.ensures ∙ product_as_read c.args.x c.args.n c.ranges.x) (c.in-err-sum.ensures ∙ as_read acc p fa fp)
+    c.from-residual-in_err-sum.ensures
+    ∙ signed_times_lem c.args.x acc p c.args.n c.args.state None c.in-Signed.is (c.in_ok-product.ensures ∙ product_as_read c.args.x c.args.n c.ranges.x) (c.in_err-sum.ensures ∙ as_read acc p fa fp)
 
 pub returns : goal.returns
 returns c =
     let acc = c.in-Signed.acc in
-    let p = c.in-ok-product.product in
-    let t = c.in-ok-sum.sum in
+    let p = c.in_ok-product.product in
+    let t = c.in_ok-sum.sum in
     let fa : SFits w64 acc = search rules in
     let fp : SFits w64 p = search rules in
     let ft : SFits w64 t = search rules in
     ap (λ z. Some (Signed z)) (to_z-of_z w64 t ft)
-    ∙ signed_times_lem c.args.x acc p c.args.n c.args.state (Some t) c.in-Signed.is (c.in-ok-product.ensures ∙ product_as_read c.args.x c.args.n c.ranges.x) (c.in-ok-sum.ensures ∙ as_read acc p fa fp)
+    ∙ signed_times_lem c.args.x acc p c.args.n c.args.state (Some t) c.in-Signed.is (c.in_ok-product.ensures ∙ product_as_read c.args.x c.args.n c.ranges.x) (c.in_ok-sum.ensures ∙ as_read acc p fa fp)

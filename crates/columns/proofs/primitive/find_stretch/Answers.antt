@@ -10,5 +10,5 @@ returns-then-column c =
     let x = c.args.column.now in
     let bits = x.bits.now in
     let n = length (values_of x.values) in
-    stretch_same (bit_at bits) (valid_by x.nullable bits) n (λ i h. by_bits x.nullable bits c.if-column.true i) c.args.from c.next-stretch.result
-    (subst (λ k. NextStretch (bit_at bits) k c.args.from c.next-stretch.result) c.len-len.ensures c.next-stretch.ensures)
+    stretch_same (bit_at bits) (valid_by x.nullable bits) n (λ i h. by_bits x.nullable bits c.if-column.true i) c.args.from c.next_stretch.result
+    (subst (λ k. NextStretch (bit_at bits) k c.args.from c.next_stretch.result) c.len-len.ensures c.next_stretch.ensures)

@@ -4,11 +4,11 @@ use Rattle.dtype.specs.Types.{narrow}
 use Rattle.columns.proofs.Parts.{unsigned_part}
 use Rattle.columns.proofs.values.add_unsigned.Goals as goal
 
-pub offset-bounds-values-from : goal.offset-bounds-values-from
-offset-bounds-values-from g c = omega (arith, c.requires.0, c.requires.1, length-map c.args.values.now g.T.NativePType.held)
+pub offset_bounds-values-from : goal.offset_bounds-values-from
+offset_bounds-values-from g c = omega (arith, c.requires.0, c.requires.1, length-map c.args.values.now g.T.NativePType.held)
 
-pub slice-bounds-sum-unsigned-all-end : goal.slice-bounds-sum-unsigned-all-end
-slice-bounds-sum-unsigned-all-end g c =
+pub slice_bounds-sum_unsigned_all-end : goal.slice_bounds-sum_unsigned_all-end
+slice_bounds-sum_unsigned_all-end g c =
     let order = c.requires.0 in
     let low : c.args.end ≤ length c.args.values.now = omega (arith, c.requires.1, length-map c.args.values.now g.T.NativePType.held) in
     search rules

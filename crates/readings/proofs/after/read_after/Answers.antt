@@ -14,11 +14,11 @@ returns g c =
     let recs = c.args.records.now in
     let z = ap (ran m mean page recs) (sym c.new-board.ensures.exact) ∙ c.run.ensures.exact in
     let lines = sym (ap (λ t. t.page) z) in
-    let answer = c.final-scalar.ensures.exact ∙ sym (ap (λ t. site_answer m (slice_get t.row c.args.site)) z) in
+    let answer = c.final_scalar.ensures.exact ∙ sym (ap (λ t. site_answer m (slice_get t.row c.args.site)) z) in
     record {
       answer = answer;
       page = lines;
       records = sym (ap (λ t. t.records) z);
       each = every_call g.row.V.Denot m g.met.V.AggregateFn.lawful mean g.C.Column.proper n c.args.options c.args.dtype page recs;
-      reads = answer_allowed g.row.V.Denot m g.met.V.AggregateFn.lawful mean g.C.Column.proper n c.args.options c.args.dtype page recs c.run.new.page c.args.site c.final-scalar.result lines answer;
+      reads = answer_allowed g.row.V.Denot m g.met.V.AggregateFn.lawful mean g.C.Column.proper n c.args.options c.args.dtype page recs c.run.new.page c.args.site c.final_scalar.result lines answer;
     }

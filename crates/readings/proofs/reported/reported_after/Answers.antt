@@ -9,13 +9,13 @@ use Rattle.readings.proofs.reported.reported_after.Goals as goal
 
 pub returns : goal.returns
 returns g c =
-    let e = c.read-after.ensures in
-    let s = sheet_after g.C.Column.meaning (length c.args.row.now) c.args.dtype c.read-after.new.page c.args.site in
+    let e = c.read_after.ensures in
+    let s = sheet_after g.C.Column.meaning (length c.args.row.now) c.args.dtype c.read_after.new.page c.args.site in
     record {
       answer = e.answer;
       page = e.page;
       records = e.records;
       each = e.each;
       totals = λ h.
-          site_reads_more (λ t x. (p : ReportedPartial) × reported_model.allowed c.args.options c.args.dtype t p × (x ≡ reported_model.final c.args.options c.args.dtype p)) (ReportedReads (family_of c.args.dtype.ptype)) (length c.args.row.now) c.args.site s c.read-after.result (λ x y. subst (λ z. ReportedReads (family_of c.args.dtype.ptype) s z) (sym y.2) (reported_reads c.args.options c.args.dtype s y.0 y.1)) (e.reads h);
+          site_reads_more (λ t x. (p : ReportedPartial) × reported_model.allowed c.args.options c.args.dtype t p × (x ≡ reported_model.final c.args.options c.args.dtype p)) (ReportedReads (family_of c.args.dtype.ptype)) (length c.args.row.now) c.args.site s c.read_after.result (λ x y. subst (λ z. ReportedReads (family_of c.args.dtype.ptype) s z) (sym y.2) (reported_reads c.args.options c.args.dtype s y.0 y.1)) (e.reads h);
     }

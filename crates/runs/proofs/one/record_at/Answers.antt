@@ -5,4 +5,4 @@ use Rattle.runs.proofs.one.record_at.Goals as goal
 
 pub returns-else-at-records : goal.returns-else-at-records
 returns-else-at-records c =
-    c.blank-record.ensures ∙ sym (get_or_past c.args.records.now c.args.at blank_statistics c.if-at-records.false)
+    c.blank_record.ensures ∙ sym (get_or_past c.args.records.now c.args.at blank_statistics c.if-at-records.false)

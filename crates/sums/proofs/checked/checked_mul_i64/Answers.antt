@@ -18,8 +18,8 @@ factors x n r s fx fr fs re se =
 read_back : (x : ℤ) (n : ℕ) (p : ℤ) → SFits w128 (x *ℤ pos n) → p ≡ x *ℤ pos n → to_z w128 (of_z w128 p) ≡ x *ℤ pos n
 read_back x n p f e = to_z-of_z w128 p (subst (SFits w128) (sym e) f) ∙ e
 
-pub overflow-mul-product : goal.overflow-mul-product
-overflow-mul-product c =
+pub overflow_mul-product : goal.overflow_mul-product
+overflow_mul-product c =
     subst (SFits w128) (sym (factors c.args.x c.args.n c.from.result c.from-2.result c.ranges.x (search rules) (search rules) c.from.ensures c.from-2.ensures))
     (product_in_128_bits c.args.x c.args.n c.ranges.x (omega arith))
 

@@ -15,8 +15,8 @@ returns-then-x-n c =
     let some = c.if-n-ne0.true in
     checked_over (c.args.x * c.args.n) (product_over c.args.x c.args.n (omega arith) c.if-x-n.true)
 
-pub overflow-mul-result : goal.overflow-mul-result
-overflow-mul-result c = record { fits = stays_within c }
+pub overflow_mul-result : goal.overflow_mul-result
+overflow_mul-result c = record { fits = stays_within c }
 
 pub returns : goal.returns
 returns c = checked_within (c.args.x * c.args.n) (stays_within c)

@@ -15,46 +15,46 @@ loop-chunk-preserved g c =
     let n : k ≡ true = ap narrow (sym c.ptype.ensures) ∙ sym c.if-batch.ensures in
     let s = c.in-Some.ensures.steps in
     let i = c.loop-chunk.invariant in
-    let t = c.in-Some-checked-add-i64.t in
+    let t = c.in-Some-checked_add_i64.t in
     let ft : SFits w64 t = search rules in
-    let x = c.signed-chunk-sum.result in
+    let x = c.signed_chunk_sum.result in
     let fx : SFits w64 x = search rules in (
       tt,
       omega arith,
       omega (arith, s.0, i.2),
       chunk_added signed64 w k n _ (to_z w64 (of_z w64 t)) (chunks_rest c.loop-chunk.chunk-iterator) c.in-Some.chunk.now (chunks_rest c.next.new.self) s.1.2 s.1.0 (omega (arith, s.1.1, i.2))
-          (step_answers _ (to_z w64 (of_z w64 x)) _ t (to_z w64 (of_z w64 t)) (to_z-of_z w64 x fx ∙ c.signed-chunk-sum.ensures) (to_z-of_z w64 t ft) c.in-Some-checked-add-i64.ensures)
+          (step_answers _ (to_z w64 (of_z w64 x)) _ t (to_z w64 (of_z w64 t)) (to_z-of_z w64 x fx ∙ c.signed_chunk_sum.ensures) (to_z-of_z w64 t ft) c.in-Some-checked_add_i64.ensures)
           ∙ i.3,
     )
 
 pub loop-v-preserved : goal.loop-v-preserved
 loop-v-preserved g c =
     let w : g.row.T.Denot → ℤ = λ x. int_of (g.T.NativePType.held x) in
-    let t = c.in-Some-checked-add-i64-2.t in
+    let t = c.in-Some-checked_add_i64-2.t in
     let ft : SFits w64 t = search rules in
     let x = c.widen.result in
     let fx : SFits w64 x = search rules in
-    sym (step_answers _ (to_z w64 (of_z w64 x)) (w c.v-item.result) t (to_z w64 (of_z w64 t)) (to_z-of_z w64 x fx ∙ c.widen.ensures.same) (to_z-of_z w64 t ft) c.in-Some-checked-add-i64-2.ensures)
+    sym (step_answers _ (to_z w64 (of_z w64 x)) (w c.v-item.result) t (to_z w64 (of_z w64 t)) (to_z-of_z w64 x fx ∙ c.widen.ensures.same) (to_z-of_z w64 t ft) c.in-Some-checked_add_i64-2.ensures)
     ∙ step_next signed64 w _ _ c.args.slice.now c.loop-v.v-index c.v-item.result c.loop-v-test.true c.v-item.is c.loop-v.invariant
 
-pub returns-in-default : goal.returns-in-default
-returns-in-default g c =
+pub returns-in_default : goal.returns-in_default
+returns-in_default g c =
     let w : g.row.T.Denot → ℤ = λ x. int_of (g.T.NativePType.held x) in
     let k = narrow g.T.NativePType.kind in
     let n : k ≡ true = ap narrow (sym c.ptype.ensures) ∙ sym c.if-batch.ensures in
     let s = c.in-Some.ensures.steps in
     let i = c.loop-chunk.invariant in
-    let x = c.signed-chunk-sum.result in
+    let x = c.signed_chunk_sum.result in
     let fx : SFits w64 x = search rules in
     let e : None ≡ checked_sum signed64 k w c.args.acc c.args.slice.now =
     chunk_overflow_ends signed64 w k n _ (chunks_rest c.loop-chunk.chunk-iterator) c.in-Some.chunk.now (chunks_rest c.next.new.self) s.1.2 s.1.0 (omega (arith, s.1.1, i.2))
-    (step_refuses _ (to_z w64 (of_z w64 x)) _ (to_z-of_z w64 x fx ∙ c.signed-chunk-sum.ensures) c.in-default.ensures)
+    (step_refuses _ (to_z w64 (of_z w64 x)) _ (to_z-of_z w64 x fx ∙ c.signed_chunk_sum.ensures) c.in_default.ensures)
     ∙ i.3
     ∙ ap (λ z. checked_sum signed64 k w z c.args.slice.now) (to_z-of_z w64 c.args.acc c.ranges.acc) in
     record { steps = e; exact = signed_total_of k w c.args.acc c.args.slice.now None e }
 
-pub returns-in-default-checked-add-i64 : goal.returns-in-default-checked-add-i64
-returns-in-default-checked-add-i64 g c =
+pub returns-in_default-checked_add_i64 : goal.returns-in_default-checked_add_i64
+returns-in_default-checked_add_i64 g c =
     let w : g.row.T.Denot → ℤ = λ x. int_of (g.T.NativePType.held x) in
     let k = narrow g.T.NativePType.kind in
     let n : k ≡ false = ap narrow (sym c.ptype.ensures) ∙ sym c.if-batch.ensures in
@@ -62,7 +62,7 @@ returns-in-default-checked-add-i64 g c =
     let fx : SFits w64 x = search rules in
     let e : None ≡ checked_sum signed64 k w c.args.acc c.args.slice.now =
     overflow_ends signed64 w k n _ _ c.args.slice.now c.loop-v.v-index c.v-item.result c.loop-v-test.true c.v-item.is c.loop-v.invariant
-    (step_refuses _ (to_z w64 (of_z w64 x)) _ (to_z-of_z w64 x fx ∙ c.widen.ensures.same) c.in-default-checked-add-i64.ensures)
+    (step_refuses _ (to_z w64 (of_z w64 x)) _ (to_z-of_z w64 x fx ∙ c.widen.ensures.same) c.in_default-checked_add_i64.ensures)
     ∙ ap (λ z. checked_sum signed64 k w z c.args.slice.now) (to_z-of_z w64 c.args.acc c.ranges.acc) in
     record { steps = e; exact = signed_total_of k w c.args.acc c.args.slice.now None e }
 

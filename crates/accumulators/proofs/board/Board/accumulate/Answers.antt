@@ -3,6 +3,6 @@ use Rattle.accumulators.proofs.board.Board.accumulate.Goals as goal
 
 pub returns : goal.returns
 returns g c = record {
-  exact = c.accumulate-at.ensures;
-  keeps = accumulate_keeps g.V.AggregateFn.model g.met.V.AggregateFn.lawful c.args.self.now.sites.now (g.C.Column.meaning c.args.column.now) c.args.stats.now c.args.site c.accumulate-at.result c.accumulate-at.new.stats c.accumulate-at.new.sites (g.C.Column.proper c.args.column.now) c.accumulate-at.ensures;
+  exact = c.accumulate_at.ensures;
+  keeps = accumulate_keeps g.V.AggregateFn.model g.met.V.AggregateFn.lawful c.args.self.now.sites.now (g.C.Column.meaning c.args.column.now) c.args.stats.now c.args.site c.accumulate_at.result c.accumulate_at.new.stats c.accumulate_at.new.sites (g.C.Column.proper c.args.column.now) c.accumulate_at.ensures;
 }

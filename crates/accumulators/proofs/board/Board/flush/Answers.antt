@@ -4,8 +4,8 @@ use Rattle.accumulators.proofs.board.Board.flush.Goals as goal
 
 pub returns : goal.returns
 returns g c = record {
-  exact = c.flush-at.ensures.answer;
-  after = c.flush-at.ensures.after;
-  reads = scalar_read g.V.AggregateFn.model g.met.V.AggregateFn.lawful c.args.self.now.sites.now c.args.site c.flush-at.result c.flush-at.ensures.answer;
-  keeps = clear_keeps g.V.AggregateFn.model g.met.V.AggregateFn.lawful c.args.self.now.sites.now (scalar_now g.V.AggregateFn.model) c.args.site c.flush-at.result c.flush-at.new.sites c.flush-at.ensures.answer c.flush-at.ensures.after;
+  exact = c.flush_at.ensures.answer;
+  after = c.flush_at.ensures.after;
+  reads = scalar_read g.V.AggregateFn.model g.met.V.AggregateFn.lawful c.args.self.now.sites.now c.args.site c.flush_at.result c.flush_at.ensures.answer;
+  keeps = clear_keeps g.V.AggregateFn.model g.met.V.AggregateFn.lawful c.args.self.now.sites.now (scalar_now g.V.AggregateFn.model) c.args.site c.flush_at.result c.flush_at.new.sites c.flush_at.ensures.answer c.flush_at.ensures.after;
 }

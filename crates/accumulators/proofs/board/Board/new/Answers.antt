@@ -12,6 +12,6 @@ size_fits n h =
 pub returns : goal.returns
 returns g c =
     let n = length c.args.row.now in
-    let tested = sym (ap is_err c.check-size.ensures) ∙ sym c.if-is-err.ensures.value in
+    let tested = sym (ap is_err c.check_size.ensures) ∙ sym c.if-is_err.ensures.value in
     let e = c.renew.ensures ∙ sym (cond-true (is_board_size n) _ _ (size_fits n tested)) in
     record { exact = e; empty = new_board g.row.V.Denot g.V.AggregateFn.model n c.args.options c.args.dtype c.renew.new.sites e }

@@ -3,7 +3,7 @@ use Rattle.accumulators.proofs.board.Board.reset.Goals as goal
 
 pub returns : goal.returns
 returns g c = record {
-  exact = c.reset-at.ensures.answer;
-  after = c.reset-at.ensures.after;
-  keeps = clear_keeps g.V.AggregateFn.model g.met.V.AggregateFn.lawful c.args.self.now.sites.now (λ a. tt) c.args.site c.reset-at.result c.reset-at.new.sites c.reset-at.ensures.answer c.reset-at.ensures.after;
+  exact = c.reset_at.ensures.answer;
+  after = c.reset_at.ensures.after;
+  keeps = clear_keeps g.V.AggregateFn.model g.met.V.AggregateFn.lawful c.args.self.now.sites.now (λ a. tt) c.args.site c.reset_at.result c.reset_at.new.sites c.reset_at.ensures.answer c.reset_at.ensures.after;
 }

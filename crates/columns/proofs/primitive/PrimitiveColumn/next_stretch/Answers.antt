@@ -10,4 +10,4 @@ pub returns : goal.returns
 returns c =
     let x = c.args.self.now in
     let xs = values_of x.values in
-    stretch_same (valid_by x.nullable x.bits.now) (valid (primitive_meaning x)) (length xs) (λ i h. there_by (valid_by x.nullable x.bits.now i) xs i h) c.args.from c.find-stretch.result c.find-stretch.ensures
+    stretch_same (valid_by x.nullable x.bits.now) (valid (primitive_meaning x)) (length xs) (λ i h. there_by (valid_by x.nullable x.bits.now i) xs i h) c.args.from c.find_stretch.result c.find_stretch.ensures
