@@ -19,7 +19,7 @@ loop-chunk-preserved g c =
     let ft : SFits w64 t = search rules in
     let x = c.signed_chunk_sum.result in
     let fx : SFits w64 x = search rules in (
-      tt,
+      omega (arith, s.0, i.2),
       omega arith,
       omega (arith, s.0, i.2),
       chunk_added signed64 w k n _ (to_z w64 (of_z w64 t)) (chunks_rest c.loop-chunk.chunk-iterator) c.in-Some.chunk.now (chunks_rest c.next.new.self) s.1.2 s.1.0 (omega (arith, s.1.1, i.2))

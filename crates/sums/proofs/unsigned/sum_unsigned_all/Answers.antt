@@ -13,7 +13,7 @@ loop-chunk-preserved g c =
     let n : narrow g.T.NativePType.kind ≡ true = ap narrow (sym c.ptype.ensures) ∙ sym c.if-batch.ensures in
     let s = c.in-Some.ensures.steps in
     let i = c.loop-chunk.invariant in (
-      tt,
+      omega (arith, s.0, i.2),
       omega arith,
       omega (arith, s.0, i.2),
       chunk_added unsigned64 w (narrow g.T.NativePType.kind) n c.loop-chunk.total c.in-Some-checked_add_u64.t (chunks_rest c.loop-chunk.chunk-iterator) c.in-Some.chunk.now (chunks_rest c.next.new.self) s.1.2 s.1.0 (omega (arith, s.1.1, i.2))
