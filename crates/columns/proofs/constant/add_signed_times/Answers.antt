@@ -19,7 +19,7 @@ returns-in_err-sum c =
     let p = c.in_ok-product.product in
     let fa : SFits w64 acc = search rules in
     let fp : SFits w64 p = search rules in
-    c.from-residual-in_err-sum.ensures
+    c.from_residual-in_err-sum.ensures
     ∙ signed_times_lem c.args.x acc p c.args.n c.args.state None c.in-Signed.is (c.in_ok-product.ensures ∙ product_as_read c.args.x c.args.n c.ranges.x) (c.in_err-sum.ensures ∙ as_read acc p fa fp)
 
 pub returns : goal.returns
