@@ -22,7 +22,7 @@ fn good_file(rt: HostRuntime) -> Result<(), Fail> {
     let sites = read_sites::<i8>(rt.alloc(), text, header)?;
     assert!(rt; sites.len() == 1);
     assert!(rt; sites[0].name.as_str() == "Birch Field");
-    assert!(rt; sites[0].readings.as_slice() == &[Some(12), None, Some(3)]);
+    assert!(rt; sites[0].readings.as_slice() == [Some(12), None, Some(3)].as_slice());
     Ok(())
 }
 
