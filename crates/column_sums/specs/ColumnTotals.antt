@@ -1,5 +1,5 @@
 -- What the sum of a column says of its exact total. Assumes nothing.
-use Rattle.std.specs.Prelude.{◌≡◌, ℕ, Bool, true, ℤ, is_some, Option}
+use Rattle.std.specs.Prelude.{◌≡◌, ℕ, true, ℤ, is_some, Option}
 use Rattle.std.specs.Option.{option_map}
 use Rattle.dtype.specs.declared.ptype.Family.{Family}
 use Rattle.dtype.specs.declared.ptype.Family.TheVariants as family

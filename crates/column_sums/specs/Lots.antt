@@ -2,7 +2,7 @@
 use Rattle.std.specs.Prelude.{ℕ, zero, suc, ◌*◌, Bool, true, false, cond, List, [], ◌∷◌, ℤ, pos, ◌*ℤ◌, Some, None, sum_by, Option, ◌==◌}
 use Rattle.dtype.specs.declared.value.Value.{Value}
 use Rattle.dtype.specs.Values.{nat_of, int_of, nan_value}
-use Rattle.sums.specs.Sums.{signed64, exact_total, above, below}
+use Rattle.sums.specs.Sums.{signed64, exact_total}
 use Rattle.columns.specs.Columns.{Meaning}
 
 -- a value and how often it stands in a column

@@ -1,5 +1,5 @@
 -- One signed value many times, as one step. Assumes nothing.
-use Rattle.std.proofs.Common.{◌≡◌, ℕ, Bool, true, false, cond, ℤ, pos, ◌*ℤ◌, Some, None, Option, sym, refl, ap, ◌∙◌, arith}
+use Rattle.std.proofs.Common.{◌≡◌, ℕ, Bool, true, false, cond, ℤ, pos, ◌*ℤ◌, Some, None, Option, sym, ap, ◌∙◌, arith}
 use Rattle.std.specs.Option.{option_map}
 use Rattle.sums.specs.declared.state.SumState.{SumState}
 use Rattle.sums.specs.declared.state.SumState.TheVariants.{Signed}

@@ -1,14 +1,12 @@
 -- What a column means: its entries, stretches and lots, and its sum. Assumes nothing.
 use Rattle.std.specs.Prelude.{◌≡◌, ℕ, zero, suc, ◌-◌, ◌<◌, Bool, true, false, cond, ◌&&◌, List, [], ◌∷◌, is_some, Some, None, Option, ◌==◌, nat_lt}
-use Rattle.std.specs.Option.{unwrap_or}
 use Rattle.dtype.specs.declared.ptype.DType.{DType}
 use Rattle.dtype.specs.declared.ptype.Family.{Family}
 use Rattle.dtype.specs.declared.value.Value.{Value}
-use Rattle.dtype.specs.declared.value.Value.TheVariants as v
 use Rattle.dtype.specs.Types.{family_of, narrow}
 use Rattle.dtype.specs.Values.{ValueOf}
 use Rattle.sums.specs.declared.state.SumState.{SumState}
-use Rattle.columns.specs.States.{add_span, times_added, add_stretches, onto}
+use Rattle.columns.specs.States.{add_span, times_added}
 use Rattle.columns.specs.Stretches.{begins}
 
 -- A column of `len` entries, each null or a value. Nothing is built of them, so a length may be any number.

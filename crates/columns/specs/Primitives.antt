@@ -1,6 +1,6 @@
 -- What a primitive column means: values and a bitmap. Assumes nothing.
 use Rattle.std.specs.Prelude.{◌≡◌, ℕ, zero, suc, ◌<◌, Bool, true, false, cond, List, [], ◌∷◌, map, length, Some, None, Option, ◌≢◌, refl}
-use Rattle.std.proofs.Common.{sym, ◌∙◌, arith}
+use Rattle.std.proofs.Common.{sym, arith}
 use Rattle.std.specs.List.{slice_get}
 use Rattle.std.proofs.lemmas.Bool.{false≢true}
 use Rattle.dtype.specs.declared.ptype.PType.{PType}
@@ -11,7 +11,7 @@ use Rattle.dtype.specs.Values.{kind_of, ValueOf}
 use Rattle.columns.specs.declared.values.Values.{Values}
 use Rattle.columns.specs.declared.values.Values.TheVariants as w
 use Rattle.columns.specs.declared.primitive.Primitive.{Primitive}
-use Rattle.columns.specs.Bitmaps.{bit_at, valid_by}
+use Rattle.columns.specs.Bitmaps.{valid_by}
 use Rattle.columns.specs.Columns.{Meaning, Proper}
 use Rattle.columns.specs.Values.{values_kind, values_of}
 

@@ -1,5 +1,5 @@
 -- Adding to the state of a sum: a list of values, or one value many times. Assumes nothing.
-use Rattle.std.specs.Prelude.{ℕ, zero, suc, ◌*◌, Bool, true, false, cond, ◌&&◌, List, [], ◌∷◌, ℤ, pos, ◌*ℤ◌, Some, None, fold, Option, is_nan, Float}
+use Rattle.std.specs.Prelude.{ℕ, ◌*◌, Bool, true, false, cond, ◌&&◌, List, ℤ, pos, ◌*ℤ◌, Some, None, fold, Option, is_nan, Float}
 use Rattle.std.specs.Float.{binary64}
 use Rattle.std.specs.Float.Ieee.{add, mul, of_int}
 use Rattle.std.specs.Option.{option_map}
@@ -9,7 +9,7 @@ use Rattle.dtype.specs.declared.value.Value.{Value}
 use Rattle.dtype.specs.Values.{nat_of, int_of, float_of}
 use Rattle.sums.specs.declared.state.SumState.{SumState}
 use Rattle.sums.specs.declared.state.SumState.TheVariants.{Unsigned, Signed, Float as Floating}
-use Rattle.sums.specs.Sums.{Adding, unsigned64, signed64, checked, step, checked_sum, float_sum}
+use Rattle.sums.specs.Sums.{Adding, unsigned64, signed64, step, checked_sum, float_sum}
 use Rattle.sums.specs.States.{held, kept}
 
 -- A state of another family than the values' does not arise; what is added to it gives none.

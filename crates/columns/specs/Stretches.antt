@@ -1,5 +1,5 @@
 -- Stretches: the longest runs of valid entries. Assumes nothing.
-use Rattle.std.specs.Prelude.{◌≡◌, ℕ, zero, suc, ◌-◌, ◌<◌, ◌≤◌, Bool, true, false, cond, not, ◌&&◌, Some, None, Option, MatchOption, ◌==◌}
+use Rattle.std.specs.Prelude.{◌≡◌, ℕ, ◌-◌, ◌<◌, ◌≤◌, Bool, true, false, cond, not, ◌&&◌, Option, MatchOption, ◌==◌}
 use Rattle.columns.specs.declared.bitmap.Stretch.{Stretch}
 
 -- entry i is valid, and the one before it is not

@@ -1,5 +1,5 @@
 -- A cached sum is never null. Assumes nothing.
-use Rattle.std.specs.Prelude.{Bool, true, false, is_some}
+use Rattle.std.specs.Prelude.{Bool, true, is_some}
 use Rattle.dtype.specs.declared.scalar.Scalar.{Scalar}
 use Rattle.dtype.specs.declared.precision.Precision.{Precision}
 use Rattle.dtype.specs.declared.precision.Precision.TheVariants.{Exact, Inexact, Absent}

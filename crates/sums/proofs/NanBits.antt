@@ -1,6 +1,6 @@
 -- Each NaN is kept as one pattern. Assumes nothing.
-use Rattle.std.proofs.Common.{◌≡◌, Bool, true, false, not, T, sym, refl, ap, ◌∙◌, subst}
-use lib.Ieee.{Float, nan, inf, fin, binary64, is_nan, to_bits}
+use Rattle.std.proofs.Common.{◌≡◌, Bool, true, not, T, refl, ap, ◌∙◌, subst}
+use lib.Ieee.{Float, nan, inf, fin, is_nan, to_bits}
 use Rattle.sums.specs.States.{kept, nan_pattern}
 
 pub nan_is : (x : Float) → is_nan x ≡ true → x ≡ nan

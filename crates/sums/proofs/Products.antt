@@ -1,5 +1,5 @@
 -- Products that stay within 64 bits, and those that leave them. Assumes nothing.
-use Rattle.std.proofs.Common.{◌≡◌, ℕ, zero, suc, ◌+◌, ◌*◌, ◌/◌, ◌^◌, ◌<◌, ◌≤◌, Bool, true, false, cond, ltb, ℤ, pos, negsuc, ◌*ℤ◌, neg_ℤ, Some, None, Option, sym, refl, ap, ◌∙◌, subst, div-lt_iff_lt-mul, mul-zero, le-div_iff_mul-le, arith, w64, SFits, ltb-false, ltb-true}
+use Rattle.std.proofs.Common.{◌≡◌, ℕ, zero, suc, ◌*◌, ◌/◌, ◌^◌, ◌<◌, ◌≤◌, true, false, ℤ, pos, negsuc, ◌*ℤ◌, neg_ℤ, Some, None, ap, ◌∙◌, div-lt_iff_lt-mul, mul-zero, le-div_iff_mul-le, arith, w64, SFits, ltb-false, ltb-true}
 use lib.Signed.{mag, lt_z}
 use mir.Syntax.{w128}
 use Rattle.std.proofs.lemmas.Bool.{le-ltb, lt-ltb, false≢true}

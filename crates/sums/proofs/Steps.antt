@@ -1,5 +1,5 @@
 -- Checked sums of any family, one turn of a loop at a time. Assumes nothing.
-use Rattle.std.proofs.Common.{◌≡◌, ℕ, ◌+◌, ◌<◌, ◌≤◌, min, Bool, true, false, List, [], ◌∷◌, ◌++◌, length, get_or, take, drop, Some, None, fold, Option, sym, refl, ap, ◌∙◌, subst, arith, take-append-drop, take_all}
+use Rattle.std.proofs.Common.{◌≡◌, ℕ, ◌+◌, ◌<◌, ◌≤◌, min, Bool, true, false, List, [], ◌∷◌, ◌++◌, length, get_or, take, drop, Some, None, fold, Option, sym, refl, ap, ◌∙◌, arith, take-append-drop, take_all}
 use Rattle.std.proofs.lemmas.List.Sums.{fold_more}
 use Rattle.sums.specs.Sums.{Adding, step, exact_total, checked_sum, chunked}
 use Rattle.sums.proofs.Chunks.{chunked_first}

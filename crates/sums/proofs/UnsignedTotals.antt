@@ -1,5 +1,5 @@
 -- A checked unsigned sum against the exact total. Assumes nothing.
-use Rattle.std.proofs.Common.{◌≡◌, ℕ, ◌+◌, ◌^◌, ◌<◌, ◌≤◌, Bool, true, false, cond, ltb, List, [], ◌∷◌, length, Some, None, fold, sum_by, Option, sym, refl, ap, ◌∙◌, subst, arith, ltb-false, ltb-true, MatchOption}
+use Rattle.std.proofs.Common.{◌≡◌, ℕ, ◌+◌, ◌^◌, ◌<◌, ◌≤◌, Bool, true, false, cond, ltb, List, [], ◌∷◌, length, Some, None, fold, sum_by, Option, sym, refl, ap, subst, arith, ltb-false, ltb-true, MatchOption}
 use Rattle.std.proofs.lemmas.List.Sums.{sum_by-cons}
 use Rattle.sums.specs.Sums.{unsigned64, step, checked_sum, chunked, UnsignedTotal}
 use Rattle.sums.proofs.Steps.{none_stays}

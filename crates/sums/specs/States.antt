@@ -1,5 +1,5 @@
 -- The state of a running sum, and the value that it reads. Assumes nothing.
-use Rattle.std.specs.Prelude.{◌≡◌, ℕ, pos, Some, None, Option, from_bits, to_bits, Float}
+use Rattle.std.specs.Prelude.{ℕ, pos, Some, None, Option, from_bits, to_bits, Float}
 use Rattle.std.specs.Float.{binary64}
 use Rattle.std.specs.Option.{option_map}
 use Rattle.dtype.specs.declared.ptype.Family.{Family}

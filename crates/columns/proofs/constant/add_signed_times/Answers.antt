@@ -1,4 +1,4 @@
-use Rattle.std.proofs.Common.{◌≡◌, ℕ, ℤ, pos, ◌*ℤ◌, Some, None, sym, ap, ◌∙◌, w64, SFits, to_z, of_z, rules}
+use Rattle.std.proofs.Common.{◌≡◌, ℕ, ℤ, pos, ◌*ℤ◌, Some, None, ap, ◌∙◌, w64, SFits, to_z, of_z, rules}
 use Rattle.std.proofs.lemmas.Int.{to_z-of_z}
 use Rattle.sums.specs.Sums.{signed64, checked, step}
 use Rattle.sums.specs.declared.state.SumState.TheVariants.{Signed}

@@ -1,8 +1,7 @@
-use Rattle.std.proofs.Common.{◌≡◌, ℕ, Bool, true, false, ℤ, pos, negsuc, ◌*ℤ◌, Some, None, sym, ap, ◌∙◌, subst, arith, w64, SFits, to_z, of_z, rules}
+use Rattle.std.proofs.Common.{◌≡◌, ℕ, Bool, true, false, ℤ, pos, negsuc, ◌*ℤ◌, Some, sym, ap, ◌∙◌, subst, arith, w64, SFits, to_z, of_z, rules}
 use lib.Signed.{lt_z}
 use mir.Syntax.{w128}
-use Rattle.std.proofs.lemmas.Int.{to_z-of_z, ints}
-use Rattle.sums.specs.Sums.{signed64, checked}
+use Rattle.std.proofs.lemmas.Int.{to_z-of_z}
 use Rattle.sums.proofs.Products.{product_in_128_bits, below_least, above_most, between, checked_between}
 use Rattle.sums.proofs.checked.checked_mul_i64.Goals as goal
 use Rattle.sums.proofs.checked.checked_mul_i64.Goals.{then-product-from-via-then-product-from, then-product-from-via-else-product-from+then-product-from-2}

@@ -1,4 +1,4 @@
-use Rattle.std.proofs.Common.{◌*◌, ◌^◌, ◌<◌, arith, Fits}
+use Rattle.std.proofs.Common.{◌*◌, ◌^◌, ◌<◌, arith}
 use Rattle.sums.proofs.Products.{product_over, product_within, product_none, checked_over, checked_within}
 use Rattle.sums.proofs.checked.checked_mul_u64.Goals as goal
 use Rattle.sums.proofs.checked.checked_mul_u64.Goals.{else-n-ne0-via-then-n-ne0+else-x-n, else-n-ne0-via-else-n-ne0}

@@ -1,4 +1,4 @@
-use Rattle.std.proofs.Common.{◌≡◌, sym, ◌∙◌}
+use Rattle.std.proofs.Common.{sym, ◌∙◌}
 use Rattle.dtype.specs.Values.{float_of}
 use Rattle.sums.proofs.FloatSums.{float_next, floats_all_added, nan_passed_over, all_taken, number_taken}
 use Rattle.sums.proofs.float.sum_float_all.Goals as goal

@@ -1,4 +1,4 @@
-use Rattle.std.proofs.Common.{ap, ◌∙◌, arith, take_all, rules}
+use Rattle.std.proofs.Common.{ap, ◌∙◌, arith, take_all}
 use Rattle.std.proofs.lemmas.Int.{ints}
 use Rattle.dtype.specs.Values.{int_of}
 use Rattle.sums.specs.Sums.{signed64, exact_total}

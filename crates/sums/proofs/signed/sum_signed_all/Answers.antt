@@ -1,9 +1,9 @@
-use Rattle.std.proofs.Common.{◌≡◌, true, false, ℤ, Some, None, sym, ap, ◌∙◌, arith, w64, SFits, to_z, of_z, rules}
+use Rattle.std.proofs.Common.{◌≡◌, true, false, ℤ, None, sym, ap, ◌∙◌, arith, w64, SFits, to_z, of_z, rules}
 use Rattle.std.specs.Slice.Iter.{chunks_rest}
 use Rattle.std.proofs.lemmas.Int.{to_z-of_z}
 use Rattle.dtype.specs.Types.{narrow}
 use Rattle.dtype.specs.Values.{int_of}
-use Rattle.sums.specs.Sums.{signed64, step, checked_sum}
+use Rattle.sums.specs.Sums.{signed64, checked_sum}
 use Rattle.sums.proofs.Steps.{step_next, overflow_ends, all_added, chunk_added, chunk_overflow_ends, nothing_left}
 use Rattle.sums.proofs.SignedTotals.{signed_total_of, step_answers, step_refuses}
 use Rattle.sums.proofs.signed.sum_signed_all.Goals as goal

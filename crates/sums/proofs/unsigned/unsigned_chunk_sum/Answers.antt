@@ -1,4 +1,4 @@
-use Rattle.std.proofs.Common.{ap, ◌∙◌, arith, take_all, rules}
+use Rattle.std.proofs.Common.{ap, ◌∙◌, arith, take_all}
 use Rattle.dtype.specs.Values.{nat_of}
 use Rattle.sums.specs.Sums.{unsigned64, exact_total}
 use Rattle.sums.proofs.Steps.{total_next}

@@ -1,4 +1,4 @@
-use Rattle.std.proofs.Common.{◌≡◌, ◌-◌, length, take, drop, sym, ap, ◌∙◌, subst, le_refl, arith, rules}
+use Rattle.std.proofs.Common.{◌≡◌, ◌-◌, take, drop, sym, ap, ◌∙◌, le_refl, arith}
 use Rattle.dtype.specs.Types.{family_of, narrow}
 use Rattle.columns.specs.Bitmaps.{valid_by}
 use Rattle.columns.specs.Columns.{stretch_sum}
