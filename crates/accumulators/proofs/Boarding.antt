@@ -1,21 +1,20 @@
 -- What the laws of an aggregate give of a board: each call keeps the sheets of its row. Assumes nothing.
-use Rattle.std.proofs.Common.{◌≡◌, ℕ, zero, suc, ◌<◌, Bool, true, false, cond, eqb, ◌⊎◌, List, [], ◌∷◌, ◌++◌, length, set, replicate, Some, None, Ok, Err, Option, Result, sym, refl, ap, ◌∙◌, subst, inl, inr, ⊎_elim, arith, MatchResult}
+use Rattle.std.proofs.Common.{◌≡◌, ℕ, zero, suc, ◌<◌, Bool, true, false, eqb, ◌⊎◌, List, [], ◌∷◌, ◌++◌, length, set, replicate, Some, None, Ok, Err, Option, Result, sym, refl, ap, ◌∙◌, subst, inl, inr, ⊎_elim, arith, MatchResult}
 use lib.ListN.{length-replicate}
 use Rattle.std.specs.List.{slice_get}
-use Rattle.std.proofs.lemmas.Bool.{cond-true, cond-false, cases_Bool, cases_eq, eq-eqb, ne_eqb, true≢false, false≢true}
+use Rattle.std.proofs.lemmas.Bool.{cond-true, cond-false, cases_Bool, cases_eq, eq-eqb, ne_eqb, true≢false}
 use Rattle.dtype.specs.declared.ptype.DType.{DType}
 use Rattle.dtype.specs.declared.refusal.Refusal.{Refusal}
 use Rattle.dtype.specs.declared.statistics.Statistics.{Statistics}
 use Rattle.dtype.specs.Same.{same_dtype, type_same}
 use Rattle.dtype.specs.Types.{has_same_type}
 use Rattle.columns.specs.Columns.{Meaning, Proper}
-use Rattle.column_sums.specs.Lots.{column_lots}
 use Rattle.column_sums.specs.Records.{Truthful}
-use Rattle.aggregates.specs.Model.{Model, Lawful, Holds, Gains, started}
-use Rattle.aggregates.specs.Sheets.{Sheet, handed, lots}
+use Rattle.aggregates.specs.Model.{Model, Lawful, started}
+use Rattle.aggregates.specs.Sheets.{Sheet, handed}
 use Rattle.accumulators.specs.declared.accumulator.Accumulator.{Accumulator}
-use Rattle.accumulators.specs.Accumulators.{Ran, Told, Fits, unused, with_partial, folded, accumulated, combined, saturated_now, saturated_by}
-use Rattle.accumulators.specs.Boards.{new_row, is_board_size, board_accumulated, board_combined, board_merged, board_cleared, site_read, site_scalar, site_answer, site_saturated, moves}
+use Rattle.accumulators.specs.Accumulators.{Ran, Told, Fits, unused, with_partial, folded, accumulated, saturated_now, saturated_by}
+use Rattle.accumulators.specs.Boards.{new_row, is_board_size, board_accumulated, board_combined, board_merged, board_cleared, site_read, site_scalar, site_answer, site_saturated}
 use Rattle.accumulators.specs.BoardSheets.{Rows, sheet_at, sheets_accumulated, sheets_combined, sheets_merged, sheets_cleared, TakesColumn, RefusesColumn, TakesScalar, RefusesScalar, TwoSites, NotTwoSites, NoSite, Kept, RecordKept, ReadFrom, NewBoard, AccumulateKeeps, CombineKeeps, MergeKeeps, ClearKeeps, ScalarRead, AnswerRead, SaturationRead}
 use Rattle.accumulators.proofs.Accumulating.{Added, moved, allowed_started, fits_taken, fits_joins, adds_column}
 use Rattle.accumulators.proofs.Lookups.{some_is, not_some, is_there, is_past, set_there, nth_set_other}

@@ -1,5 +1,5 @@
 -- What each call on an accumulator answers and leaves. Assumes nothing.
-use Rattle.std.specs.Prelude.{◌≡◌, Bool, true, false, cond, Some, None, Ok, Err, Option, Result}
+use Rattle.std.specs.Prelude.{◌≡◌, Bool, false, cond, Some, None, Ok, Err, Option, Result}
 use Rattle.dtype.specs.declared.ptype.DType.{DType}
 use Rattle.dtype.specs.declared.refusal.Refusal.{Refusal}
 use Rattle.dtype.specs.declared.refusal.Refusal.TheVariants.{ColumnDType, PartialDType}

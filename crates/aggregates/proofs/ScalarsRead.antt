@@ -1,5 +1,5 @@
 -- Scalars and records that the code makes are those of the definition. Assumes nothing.
-use Rattle.std.proofs.Common.{◌≡◌, ℕ, true, is_some, Some, None, Ok, Err, Option, Result, sym, refl, ap, ◌∙◌, arith, MatchResult}
+use Rattle.std.proofs.Common.{◌≡◌, ℕ, true, Some, None, Ok, Err, Option, Result, sym, ap, ◌∙◌, arith, MatchResult}
 use Rattle.dtype.specs.declared.ptype.DType.{DType}
 use Rattle.dtype.specs.declared.precision.Precision.TheVariants.{Exact}
 use Rattle.dtype.specs.declared.refusal.Refusal.{Refusal}

@@ -1,5 +1,5 @@
 -- Sum at the float types: null and every float state is allowed, and a NaN stays. Assumes nothing.
-use Rattle.std.specs.Prelude.{◌≡◌, ℕ, Bool, true, false, not, T, ◌⊎◌, List, [], ◌∷◌, Some, None, Option, refl, Float}
+use Rattle.std.specs.Prelude.{◌≡◌, Bool, true, not, T, ◌⊎◌, Some, None, Option, refl, Float}
 use Rattle.std.proofs.Common.{sym, ap, subst, ◌∙◌, ⊎_elim}
 use Rattle.std.specs.Float.{nan, inf, fin, binary64}
 use Rattle.std.specs.Float.Ieee.{add, is_nan, of_bits, to_bits}
@@ -12,7 +12,6 @@ use Rattle.dtype.specs.Values.{float_of}
 use Rattle.sums.specs.declared.state.SumState.{SumState}
 use Rattle.sums.specs.declared.state.SumState.TheVariants.{Unsigned, Signed, Float as Floating}
 use Rattle.sums.specs.States.{held, kept, nan_pattern}
-use Rattle.sums.proofs.NanBits.{nan_is}
 use Rattle.columns.specs.Columns.{Meaning}
 use Rattle.columns.specs.States.{onto}
 use Rattle.column_sums.specs.ColumnSums.{column_sum_by}

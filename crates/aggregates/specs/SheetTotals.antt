@@ -7,7 +7,7 @@ use Rattle.dtype.specs.declared.scalar.Scalar.{Scalar}
 use Rattle.sums.specs.Sums.{signed64, exact_total}
 use Rattle.sums.proofs.SignedTotals.{total_cons}
 use Rattle.column_sums.specs.Lots.{Lot}
-use Rattle.aggregates.specs.Sheets.{Item, lot, handed, Sheet, lots, Reordered, same, keep, swap, then}
+use Rattle.aggregates.specs.Sheets.{Item, lot, Sheet, lots, Reordered, same, keep, swap, then}
 use Rattle.aggregates.specs.Totals.{null_item, holds_null}
 
 -- what is added over a sheet of lots alone is added over the lots

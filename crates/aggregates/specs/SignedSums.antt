@@ -1,5 +1,5 @@
 -- Sum at the signed types: a number is the exact total, and null comes only with a null or past the limits. Assumes nothing.
-use Rattle.std.specs.Prelude.{◌≡◌, ℕ, ◌+◌, ◌^◌, ◌<◌, ◌≤◌, Bool, true, false, cond, ◌⊎◌, List, [], ◌∷◌, ◌++◌, ℤ, pos, ◌+ℤ◌, Some, None, Option, refl}
+use Rattle.std.specs.Prelude.{◌≡◌, ◌+◌, Bool, true, false, cond, List, [], ◌∷◌, ◌++◌, ℤ, pos, ◌+ℤ◌, Some, None, Option, refl}
 use Rattle.std.proofs.Common.{sym, ap, subst, ◌∙◌, inl, inr, arith}
 use Rattle.std.specs.Option.{option_map}
 use Rattle.std.proofs.lemmas.List.Sums.{sum_by-append}
@@ -20,7 +20,7 @@ use Rattle.columns.specs.States.{onto}
 use Rattle.column_sums.specs.ColumnSums.{column_sum_by}
 use Rattle.column_sums.specs.Lots.{Lot, int_total, lots_by}
 use Rattle.column_sums.proofs.SignedColumns.{Out, In, move_in, step_in, checked_out, Runs, column_adds_signed, total_hi, total_lo}
-use Rattle.aggregates.specs.Sheets.{Item, handed, Sheet, lots, Reordered}
+use Rattle.aggregates.specs.Sheets.{handed, Sheet, lots, Reordered}
 use Rattle.aggregates.specs.SumModel.{SignedAllowed, OfFamily}
 use Rattle.aggregates.specs.SumStates.{merged_states, taken_in, full, is_null}
 use Rattle.aggregates.specs.Totals.{int_in, int_item, signed_total, positives, negatives, holds_null}

@@ -1,5 +1,5 @@
 -- Sum keeps every law of an aggregate, at all three families. Assumes nothing.
-use Rattle.std.specs.Prelude.{◌≡◌, ℕ, zero, suc, Bool, true, false, cond, ◌&&◌, List, [], ◌∷◌, ◌++◌, pos, Some, None, Ok, Err, Option, refl}
+use Rattle.std.specs.Prelude.{◌≡◌, ℕ, zero, suc, Bool, true, false, ◌&&◌, [], ◌∷◌, ◌++◌, Some, None, Ok, Option, refl}
 use Rattle.std.proofs.Common.{sym, ap, subst, ◌∙◌, inl, inr}
 use Rattle.std.specs.Option.{option_map}
 use Rattle.std.proofs.lemmas.Bool.{cond-true}
@@ -22,14 +22,14 @@ use Rattle.sums.specs.States.{held, kept, nan_pattern, zero_of, value_of}
 use Rattle.columns.specs.Columns.{Meaning, Proper}
 use Rattle.columns.specs.States.{onto}
 use Rattle.column_sums.specs.ColumnSums.{column_sum, column_sum_by}
-use Rattle.column_sums.specs.Lots.{Lot, lots_by, column_lots}
+use Rattle.column_sums.specs.Lots.{lots_by, column_lots}
 use Rattle.column_sums.specs.Records.{RightAmount, RightSum, Truthful}
 use Rattle.column_sums.proofs.FloatColumns.{zero_canonical, held_again}
 use Rattle.aggregates.specs.declared.sum_partial.NumericalAggregateOpts.{NumericalAggregateOpts}
 use Rattle.aggregates.specs.declared.sum_partial.SumPartial.{SumPartial}
 use Rattle.aggregates.specs.Sheets.{Sheet, handed, lots, Reordered}
 use Rattle.aggregates.specs.Model.{Lawful, Holds, Step, Accepted, Gains, ReadsAgain, column_step, step_by, through_cache, cached_step, gathered}
-use Rattle.aggregates.specs.SumModel.{sum_model, holding, OfFamily, Allowed, wrote_state, cached_sum_fits, scalar_of_state, scalar_of, accepts, refuses, summed, without_nans, with_nans, by_nan_count, keeping_nans, sum_batch}
+use Rattle.aggregates.specs.SumModel.{sum_model, holding, OfFamily, Allowed, wrote_state, cached_sum_fits, scalar_of_state, scalar_of, accepts, refuses, without_nans, with_nans, by_nan_count, keeping_nans, sum_batch}
 use Rattle.aggregates.specs.SumStates.{merged_states, taken_in, full}
 use Rattle.aggregates.specs.UnsignedSums.{unsigned_joins, unsigned_adds, unsigned_belongs, unsigned_hands, unsigned_stays, unsigned_returns, unsigned_reordered, unsigned_cached, unsigned_written}
 use Rattle.aggregates.specs.SignedSums.{signed_joins, signed_adds, signed_belongs, signed_hands, signed_stays, signed_returns, signed_reordered, signed_cached, signed_written}

@@ -1,5 +1,5 @@
 -- Sum: what each operation answers, and which partials are allowed for a sheet. Assumes nothing.
-use Rattle.std.specs.Prelude.{◌≡◌, ℕ, zero, suc, ◌^◌, ◌<◌, ◌≤◌, Bool, true, false, cond, ◌⊎◌, List, [], ◌∷◌, ◌++◌, is_some, Some, None, Ok, Err, Option, refl}
+use Rattle.std.specs.Prelude.{◌≡◌, ℕ, zero, suc, ◌^◌, ◌<◌, ◌≤◌, Bool, true, false, cond, ◌⊎◌, is_some, Some, None, Ok, Err, Option, refl}
 use Rattle.std.specs.Option.{option_map}
 use Rattle.dtype.specs.declared.ptype.DType.{DType}
 use Rattle.dtype.specs.declared.ptype.Family.{Family}
@@ -17,7 +17,6 @@ use Rattle.sums.specs.declared.state.SumState.TheVariants.{Unsigned, Signed, Flo
 use Rattle.sums.specs.Sums.{unsigned64, signed64, checked}
 use Rattle.sums.specs.States.{held, kept, nan_pattern, zero_of}
 use Rattle.columns.specs.Columns.{Meaning}
-use Rattle.columns.specs.States.{onto}
 use Rattle.column_sums.specs.ColumnSums.{column_sum}
 use Rattle.aggregates.specs.declared.sum_partial.SumPartial.{SumPartial}
 use Rattle.aggregates.specs.declared.sum_partial.NumericalAggregateOpts.{NumericalAggregateOpts}

@@ -1,5 +1,5 @@
 -- States of sums: merged, taken in from a value, and saturated. Assumes nothing.
-use Rattle.std.specs.Prelude.{Bool, true, false, Some, None, Option, is_nan, Float}
+use Rattle.std.specs.Prelude.{Bool, true, false, Some, None, Option, is_nan}
 use Rattle.std.specs.Float.{binary64}
 use Rattle.std.specs.Float.Ieee.{add}
 use Rattle.std.specs.Option.{option_map}

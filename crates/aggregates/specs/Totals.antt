@@ -1,5 +1,5 @@
 -- The exact totals of a sheet of scalars, and whether it holds a null. Assumes nothing.
-use Rattle.std.specs.Prelude.{ℕ, Bool, true, false, cond, List, [], ◌∷◌, ℤ, pos, Some, None, sum_by, Option}
+use Rattle.std.specs.Prelude.{ℕ, Bool, true, false, cond, [], ◌∷◌, ℤ, pos, Some, None, sum_by, Option}
 use Rattle.dtype.specs.declared.scalar.Scalar.{Scalar}
 use Rattle.dtype.specs.declared.value.Value.{Value}
 use Rattle.dtype.specs.Values.{nat_of, int_of}

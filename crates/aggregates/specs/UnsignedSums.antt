@@ -1,9 +1,9 @@
 -- Sum at the unsigned types: a partial is null exactly where the sheet holds a null or its total exceeds 2^64 - 1. Assumes nothing.
-use Rattle.std.specs.Prelude.{◌≡◌, ℕ, ◌+◌, ◌^◌, ◌<◌, ◌≤◌, Bool, true, false, cond, ltb, List, [], ◌∷◌, ◌++◌, Some, None, Option, refl}
+use Rattle.std.specs.Prelude.{◌≡◌, ℕ, ◌+◌, ◌^◌, ◌<◌, Bool, true, false, cond, List, ◌++◌, Some, None, Option, refl}
 use Rattle.std.proofs.Common.{sym, ap, subst, ◌∙◌, ⊎_elim, arith}
 use Rattle.std.specs.Option.{option_map}
 use Rattle.std.proofs.lemmas.List.Sums.{sum_by-append}
-use Rattle.std.proofs.lemmas.Bool.{cases_lt, ltb-true, cond-false, cond_both, false≢true}
+use Rattle.std.proofs.lemmas.Bool.{cases_lt, cond-false, false≢true}
 use Rattle.dtype.specs.declared.ptype.Family.TheVariants as family
 use Rattle.dtype.specs.declared.scalar.Scalar.{Scalar}
 use Rattle.dtype.specs.declared.value.Value.{Value}
@@ -11,7 +11,6 @@ use Rattle.dtype.specs.declared.value.Value.TheVariants as v
 use Rattle.sums.specs.declared.state.SumState.{SumState}
 use Rattle.sums.specs.declared.state.SumState.TheVariants.{Unsigned, Signed, Float as Floating}
 use Rattle.sums.specs.States.{value_of}
-use Rattle.sums.specs.Sums.{unsigned64, checked}
 use Rattle.columns.specs.Columns.{Meaning}
 use Rattle.columns.specs.States.{onto}
 use Rattle.column_sums.specs.ColumnSums.{column_sum_by}

@@ -1,21 +1,20 @@
 -- A pair keeps every law of an aggregate, since its halves do. Assumes nothing.
-use Rattle.std.specs.Prelude.{◌≡◌, Bool, true, false, ◌&&◌, ◌⊎◌, List, [], ◌∷◌, ◌++◌, map, Some, None, Ok, Err, Option, Result, refl}
+use Rattle.std.specs.Prelude.{◌≡◌, true, ◌⊎◌, List, [], ◌∷◌, ◌++◌, Some, None, Option, Result, refl}
 use Rattle.std.proofs.Common.{sym, ap, ◌∙◌, inl, inr, ⊎_elim}
 use Rattle.std.proofs.Math.Path.{subst}
 use Rattle.std.proofs.lemmas.List.{map-append}
-use Rattle.std.proofs.lemmas.Bool.{and_left, and_parts, and_from}
+use Rattle.std.proofs.lemmas.Bool.{and_parts, and_from}
 use Rattle.dtype.specs.declared.ptype.DType.{DType}
 use Rattle.dtype.specs.declared.refusal.Refusal.{Refusal}
 use Rattle.dtype.specs.declared.statistics.Statistics.{Statistics}
 use Rattle.columns.specs.Columns.{Meaning, Proper}
 use Rattle.column_sums.specs.Lots.{Lot, column_lots}
 use Rattle.column_sums.specs.Records.{Truthful}
-use Rattle.aggregates.specs.Sheets.{Item, lot, handed, Sheet, lots, Reordered, same, keep, swap, then}
-use Rattle.aggregates.specs.Model.{Model, Lawful, Batch, Holds, Accepted, ReadsAgain, column_step, straight}
+use Rattle.aggregates.specs.Sheets.{lot, Sheet, lots, Reordered, same, keep, swap, then}
+use Rattle.aggregates.specs.Model.{Model, Lawful, Holds, Accepted, ReadsAgain, column_step, straight}
 use Rattle.accumulators.specs.declared.accumulator.Accumulator.{Accumulator}
-use Rattle.accumulators.specs.Accumulators.{Ran, Fits, unused, folded, accumulated, merged_into, saturated_now, scalar_now, answer_now}
-use Rattle.accumulators.specs.Belonging.{Belonging}
-use Rattle.accumulators.proofs.Accumulating.{Added, gains_twice, fits_unused, fits_taken, fits_stays, fits_joins, adds_column, fits_reordered, fits_belongs, accumulators_saturate, ReadAgain, read_again}
+use Rattle.accumulators.specs.Accumulators.{Ran, Fits, unused, accumulated, merged_into, saturated_now}
+use Rattle.accumulators.proofs.Accumulating.{Added, gains_twice, fits_unused, fits_taken, fits_stays, fits_joins, adds_column, fits_reordered, fits_belongs, accumulators_saturate, read_again}
 use Rattle.pairs.specs.declared.options.PairOptions.{PairOptions}
 use Rattle.pairs.specs.Pairs.{item_of, sheet_of, right_batch, pair_batch, pair_model}
 

@@ -1,6 +1,5 @@
 -- A pair of aggregates: each half has an accumulator of its own. Assumes nothing.
-use Rattle.std.specs.Prelude.{◌≡◌, Bool, true, false, ◌&&◌, List, [], ◌∷◌, ◌++◌, map, Some, None, Ok, Err, Option, Result}
-use Rattle.dtype.specs.declared.ptype.DType.{DType}
+use Rattle.std.specs.Prelude.{false, ◌&&◌, map, None, Ok, Err, Result}
 use Rattle.dtype.specs.declared.refusal.Refusal.{Refusal}
 use Rattle.dtype.specs.declared.statistics.Statistics.{Statistics}
 use Rattle.columns.specs.Columns.{Meaning}

@@ -1,17 +1,16 @@
 -- What a site of a new board reads after a list of calls. Assumes nothing.
-use Rattle.std.proofs.Common.{◌≡◌, ℕ, zero, suc, ◌<◌, ◌≤◌, Bool, true, false, cond, eqb, List, [], ◌∷◌, length, set, replicate, Some, None, Ok, Err, Option, Result, sym, refl, ap, ◌∙◌, subst, ⊎_elim, arith, length-set, MatchResult}
+use Rattle.std.proofs.Common.{◌≡◌, ℕ, eqb, List, [], ◌∷◌, length, set, replicate, Some, None, Option, Result, sym, refl, ap, ◌∙◌, subst, ⊎_elim, arith, length-set}
 use lib.ListN.{length-replicate}
 use Rattle.std.specs.List.{slice_get}
 use Rattle.std.proofs.lemmas.Bool.{cond-true, cond-false, cases_Bool}
 use Rattle.dtype.specs.declared.ptype.DType.{DType}
 use Rattle.dtype.specs.declared.refusal.Refusal.{Refusal}
-use Rattle.dtype.specs.declared.refusal.Refusal.TheVariants.{NoSuchSite}
 use Rattle.dtype.specs.declared.statistics.Statistics.{Statistics}
 use Rattle.columns.specs.Columns.{Meaning, Proper}
 use Rattle.aggregates.specs.Model.{Model, Lawful}
 use Rattle.aggregates.specs.Sheets.{Sheet}
 use Rattle.accumulators.specs.declared.accumulator.Accumulator.{Accumulator}
-use Rattle.accumulators.specs.Accumulators.{Told, unused, answer_now}
+use Rattle.accumulators.specs.Accumulators.{Told, unused}
 use Rattle.accumulators.specs.Boards.{is_board_size, new_row, site_answer, board_accumulated, board_combined, board_merged, board_cleared}
 use Rattle.accumulators.specs.BoardSheets.{Rows, sheet_at, ReadFrom}
 use Rattle.accumulators.proofs.Boarding.{new_board, answer_read}
@@ -19,10 +18,10 @@ use Rattle.accumulators.proofs.Lookups.{is_there, is_past}
 use Rattle.runs.specs.declared.call.Call.{Call}
 use Rattle.runs.specs.declared.call.Call.TheVariants.{Accumulate, Combine, Merge, Flush, Finish, Reset}
 use Rattle.runs.specs.declared.call.Line.{Line}
-use Rattle.runs.specs.Calls.{statistics_at, performed, RanPage, ran}
-use Rattle.runs.specs.Laws.{PageTruthful, sheets_page}
+use Rattle.runs.specs.Calls.{statistics_at, performed, ran}
+use Rattle.runs.specs.Laws.{sheets_page}
 use Rattle.runs.proofs.Running.{page_kept, sites_keep}
-use Rattle.readings.specs.NewBoards.{site_count, sheet_after, on_new_board, answer_after, HandedInTruth, EveryCall, SiteReads, AnswerAllowed}
+use Rattle.readings.specs.NewBoards.{site_count, on_new_board, answer_after, EveryCall, SiteReads, AnswerAllowed}
 
 length_new : (V : Type 0) {O : Type 0} (P S A : Type 0) (n : ℕ) (o : O) (d : DType) → length (new_row {V = V} {P = P} {S = S} {A = A} n o d) ≡ site_count n
 length_new V {O} P S A n o d =

@@ -1,6 +1,5 @@
 -- Which numbers sums and counts read, from the partials that are allowed for a sheet. Assumes nothing.
-use Rattle.std.proofs.Common.{◌≡◌, ℕ, ◌^◌, ◌<◌, ◌≤◌, Bool, true, false, cond, ◌⊎◌, ℤ, Some, None, Ok, Err, Option, Result, sym, refl, ap, ◌∙◌, subst, inl, inr, ⊎_elim, arith, MatchResult}
-use lib.Ieee.{Float}
+use Rattle.std.proofs.Common.{◌≡◌, ℕ, ◌^◌, Bool, true, false, cond, ℤ, Some, None, Ok, Err, Option, Result, sym, refl, ap, ◌∙◌, subst, inl, inr, ⊎_elim, arith}
 use Rattle.std.specs.Option.{option_map}
 use Rattle.std.proofs.lemmas.Bool.{cond-true, cond-false, cases_Bool, cases_lt, true≢false}
 use Rattle.dtype.specs.declared.ptype.DType.{DType}
@@ -9,7 +8,6 @@ use Rattle.dtype.specs.declared.ptype.Family.TheVariants as family
 use Rattle.dtype.specs.declared.ptype.PType.TheVariants as p
 use Rattle.dtype.specs.declared.refusal.Refusal.{Refusal}
 use Rattle.dtype.specs.declared.scalar.Scalar.{Scalar}
-use Rattle.dtype.specs.declared.value.Value.{Value}
 use Rattle.dtype.specs.declared.value.Value.TheVariants as v
 use Rattle.dtype.specs.Types.{family_of, sum_ptype, dtype_of_sum}
 use Rattle.sums.specs.declared.state.SumState.{SumState}
@@ -18,9 +16,9 @@ use Rattle.sums.specs.Sums.{unsigned64, checked}
 use Rattle.sums.specs.States.{held}
 use Rattle.sums.proofs.Products.{checked_over, checked_within}
 use Rattle.aggregates.specs.Sheets.{Sheet}
-use Rattle.aggregates.specs.CountModel.{scalar_of_count, exact_count, count_dtype}
-use Rattle.aggregates.specs.SumModel.{scalar_of, scalar_of_state, exactly, SignedAllowed, OfFamily, Allowed}
-use Rattle.aggregates.specs.Totals.{total, count_total, signed_total, holds_null}
+use Rattle.aggregates.specs.CountModel.{scalar_of_count, exact_count}
+use Rattle.aggregates.specs.SumModel.{scalar_of, exactly, SignedAllowed, OfFamily, Allowed}
+use Rattle.aggregates.specs.Totals.{total, count_total, holds_null}
 use Rattle.readings.specs.NewBoards.{SiteReads}
 use Rattle.readings.specs.Totals.{nullable_of, NullOrPast, ReadsExactly, ReadsSigned, ReadsFloat, SumReads, CountReads}
 

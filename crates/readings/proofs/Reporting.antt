@@ -1,13 +1,10 @@
 -- What a sum beside a count reads. Assumes nothing.
-use Rattle.std.proofs.Common.{◌≡◌, ℕ, ◌^◌, ◌<◌, ◌≤◌, Bool, true, false, cond, eqb, ◌⊎◌, Some, None, Option, sym, refl, ap, ◌∙◌, subst, inl, inr, ⊎_elim, arith}
+use Rattle.std.proofs.Common.{◌≡◌, ◌^◌, Bool, true, false, eqb, ◌⊎◌, sym, ap, ◌∙◌, subst, inl, inr, ⊎_elim, arith}
 use Rattle.std.proofs.lemmas.Bool.{cond-true, cond-false, cases_Bool, cases_eq, cases_lt, ne_eqb, true≢false}
 use Rattle.dtype.specs.declared.ptype.DType.{DType}
 use Rattle.dtype.specs.declared.scalar.Scalar.{Scalar}
-use Rattle.dtype.specs.declared.value.Value.{Value}
-use Rattle.dtype.specs.declared.value.Value.TheVariants as v
 use Rattle.dtype.specs.Types.{family_of}
 use Rattle.aggregates.specs.declared.sum_partial.NumericalAggregateOpts.{NumericalAggregateOpts}
-use Rattle.aggregates.specs.Model.{Lawful}
 use Rattle.aggregates.specs.CountModel.{count_model}
 use Rattle.aggregates.specs.SumModel.{sum_model}
 use Rattle.aggregates.specs.Sheets.{Sheet}
@@ -17,10 +14,10 @@ use Rattle.aggregates.specs.SumLawful.{sum_lawful}
 use Rattle.accumulators.specs.Accumulators.{answer_now}
 use Rattle.accumulators.proofs.Accumulating.{fits_answer}
 use Rattle.pairs.specs.declared.options.PairOptions.{PairOptions}
-use Rattle.pairs.specs.Answers.{counts_nothing, null_of, sum_if_counted}
+use Rattle.pairs.specs.Answers.{counts_nothing}
 use Rattle.pairs.specs.Pairs.{sheet_of}
 use Rattle.readings.specs.Reports.{ReportedPartial, reported_model}
-use Rattle.readings.specs.Totals.{NullOrPast, NothingCounted, SumReads, CountReads, ReportedReads}
+use Rattle.readings.specs.Totals.{NothingCounted, SumReads, CountReads, ReportedReads}
 use Rattle.readings.proofs.PlainTotals.{sum_reads, count_reads}
 
 -- whether nothing was counted can be told

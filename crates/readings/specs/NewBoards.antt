@@ -1,5 +1,5 @@
 -- A new board and a list of calls on it: the sheet that a site then has, and what it reads. Assumes nothing.
-use Rattle.std.specs.Prelude.{◌≡◌, ℕ, ◌<◌, ◌≤◌, cond, List, [], length, replicate, Result, MatchResult}
+use Rattle.std.specs.Prelude.{◌≡◌, ℕ, ◌<◌, ◌≤◌, cond, List, [], replicate, Result, MatchResult}
 use Rattle.std.specs.List.{slice_get}
 use Rattle.dtype.specs.declared.ptype.DType.{DType}
 use Rattle.dtype.specs.declared.refusal.Refusal.{Refusal}
@@ -8,7 +8,6 @@ use Rattle.dtype.specs.declared.statistics.Statistics.{Statistics}
 use Rattle.columns.specs.Columns.{Meaning}
 use Rattle.aggregates.specs.Model.{Model}
 use Rattle.aggregates.specs.Sheets.{Sheet}
-use Rattle.accumulators.specs.declared.accumulator.Accumulator.{Accumulator}
 use Rattle.accumulators.specs.Boards.{is_board_size, new_row, site_answer}
 use Rattle.accumulators.specs.BoardSheets.{sheet_at}
 use Rattle.runs.specs.declared.call.Line.{Line}

@@ -1,5 +1,5 @@
 -- What a site of sums or counts reads, by the exact totals of its sheet alone. Assumes nothing.
-use Rattle.std.specs.Prelude.{◌≡◌, ℕ, ◌^◌, ◌<◌, ◌≤◌, true, false, ◌⊎◌, List, ℤ, Some, None, Float}
+use Rattle.std.specs.Prelude.{◌≡◌, ℕ, ◌^◌, ◌<◌, ◌≤◌, true, false, ◌⊎◌, ℤ, Some, None, Float}
 use Rattle.dtype.specs.declared.ptype.DType.{DType}
 use Rattle.dtype.specs.declared.ptype.Family.{Family}
 use Rattle.dtype.specs.declared.ptype.Family.TheVariants as family

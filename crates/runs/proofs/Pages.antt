@@ -1,13 +1,11 @@
 -- A page that is run line by line. Assumes nothing.
-use Rattle.std.proofs.Common.{◌≡◌, ℕ, ◌+◌, ◌<◌, ◌≤◌, List, [], ◌∷◌, ◌++◌, length, get_or, take, drop, set, Result, sym, refl, ap, ◌∙◌, arith}
+use Rattle.std.proofs.Common.{◌≡◌, ℕ, ◌+◌, ◌<◌, ◌≤◌, List, [], ◌∷◌, ◌++◌, length, get_or, take, drop, set, sym, ap, ◌∙◌, arith}
 use Rattle.std.proofs.lemmas.List.{take_more_set, drop-set-lt, drop_more, drop_all, take_all, append_assoc, append-nil}
-use Rattle.dtype.specs.declared.refusal.Refusal.{Refusal}
 use Rattle.dtype.specs.declared.statistics.Statistics.{Statistics}
 use Rattle.columns.specs.Columns.{Meaning}
 use Rattle.aggregates.specs.Model.{Model}
 use Rattle.accumulators.specs.declared.accumulator.Accumulator.{Accumulator}
 use Rattle.runs.specs.declared.call.Line.{Line}
-use Rattle.runs.specs.declared.call.Outcome.{Outcome}
 use Rattle.runs.specs.Calls.{Performed, performed, RanPage, more, answered, ran}
 
 more_more : {C V O P S A : Type 0} (xs ys : List (Line C S A)) (z : RanPage C V O P S A) → more (xs ++ ys) z ≡ more xs (more ys z)

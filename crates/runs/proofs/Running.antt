@@ -1,7 +1,7 @@
 -- Every call of a list keeps the law, since each call of a board does. Assumes nothing.
-use Rattle.std.proofs.Common.{◌≡◌, ℕ, ◌<◌, ◌≤◌, ◌⊎◌, List, [], ◌∷◌, ◌++◌, length, get_or, set, IfOk, Ok, Err, Option, Result, sym, refl, ap, ◌∙◌, subst, inl, inr, ⊎_elim, arith}
+use Rattle.std.proofs.Common.{◌≡◌, ℕ, List, [], ◌∷◌, length, set, IfOk, Ok, Err, Result, sym, refl, ap, subst, inl, ⊎_elim, arith}
 use Rattle.std.specs.List.{slice_get}
-use Rattle.std.proofs.lemmas.List.{get_or_past, get_or-set_same, set_past}
+use Rattle.std.proofs.lemmas.List.{get_or-set_same, set_past}
 use Rattle.std.proofs.lemmas.Bool.{cases_lt}
 use Rattle.dtype.specs.declared.ptype.DType.{DType}
 use Rattle.dtype.specs.declared.refusal.Refusal.{Refusal}
@@ -11,7 +11,7 @@ use Rattle.column_sums.specs.Records.{Truthful}
 use Rattle.aggregates.specs.Model.{Model, Lawful}
 use Rattle.aggregates.specs.Sheets.{Sheet}
 use Rattle.accumulators.specs.declared.accumulator.Accumulator.{Accumulator}
-use Rattle.accumulators.specs.Accumulators.{Ran, Told, scalar_now, answer_now}
+use Rattle.accumulators.specs.Accumulators.{scalar_now, answer_now}
 use Rattle.accumulators.specs.Boards.{board_accumulated, board_combined, board_merged, site_scalar, site_answer, site_reset}
 use Rattle.accumulators.specs.BoardSheets.{Rows, sheet_at, sheets_accumulated, sheets_combined, sheets_merged, sheets_cleared, Kept, RecordKept, ReadFrom}
 use Rattle.accumulators.proofs.Boarding.{accumulate_keeps, combine_keeps, merge_keeps, clear_keeps, scalar_read, answer_read}
@@ -22,7 +22,7 @@ use Rattle.runs.specs.declared.call.Line.{Line}
 use Rattle.runs.specs.declared.call.Outcome.{Outcome}
 use Rattle.runs.specs.declared.call.Outcome.TheVariants.{Done, Flushed, Finished}
 use Rattle.runs.specs.Calls.{blank_statistics, statistics_at, Performed, answered_by, performed, RanPage, ran}
-use Rattle.runs.specs.Laws.{HandedTruthful, sheets_after, RecordsKept, AnswersFrom, CallKept, PageKept, PageTruthful, sheets_page, CallKeeps, EveryCallKeeps, SitesKeep}
+use Rattle.runs.specs.Laws.{HandedTruthful, sheets_after, CallKept, PageKept, PageTruthful, sheets_page, CallKeeps, EveryCallKeeps, SitesKeep}
 
 ok_not_err : {X E Y : Type 0} (x : X) (e : E) → Ok x ≡ Err e → Y
 ok_not_err x e h = let z : ◌≡◌ {A = ℕ} 0 1 = cc in absurd (omega arith)

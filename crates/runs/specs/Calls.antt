@@ -1,5 +1,5 @@
 -- Lists of calls: what each call answers and leaves. Assumes nothing.
-use Rattle.std.specs.Prelude.{◌≡◌, ℕ, List, [], ◌∷◌, ◌++◌, Some, None, Ok, Err, Option, Result, slice_index_or, slice_set, refl}
+use Rattle.std.specs.Prelude.{◌≡◌, ℕ, List, [], ◌∷◌, ◌++◌, Some, Ok, Err, Result, slice_index_or, slice_set, refl}
 use Rattle.std.specs.List.{slice_get}
 use Rattle.dtype.specs.declared.precision.Precision.TheVariants.{Absent}
 use Rattle.dtype.specs.declared.refusal.Refusal.{Refusal}

@@ -1,4 +1,4 @@
-use Rattle.std.proofs.Common.{◌≡◌, get_or, set, sym, refl, ap, ◌∙◌, ⊎_elim}
+use Rattle.std.proofs.Common.{get_or, set, sym, ap, ◌∙◌, ⊎_elim}
 use Rattle.accumulators.specs.Accumulators.{with_partial, merged_into}
 use Rattle.accumulators.proofs.Merging.{accepted, past_first, past_second, same_site, two_sites}
 use Rattle.accumulators.proofs.sites.merge_at.Goals as goal

@@ -1,4 +1,4 @@
-use Rattle.std.proofs.Common.{get_or, set, None, sym, refl, ap, ◌∙◌}
+use Rattle.std.proofs.Common.{get_or, set, None, sym, ap, ◌∙◌}
 use Rattle.std.proofs.lemmas.Option.{slice_get_past, slice_get-get_or}
 use Rattle.accumulators.specs.Boards.{site_reset, board_cleared}
 use Rattle.accumulators.proofs.Lookups.{get_d_any}

@@ -1,4 +1,4 @@
-use Rattle.std.proofs.Common.{◌≡◌, true, Some, ap, ◌∙◌}
+use Rattle.std.proofs.Common.{true, Some, ap, ◌∙◌}
 use Rattle.dtype.specs.Values.{kind_of}
 use Rattle.dtype.specs.declared.ptype.DType.{DType}
 use Rattle.dtype.specs.declared.value.Value.{Value}

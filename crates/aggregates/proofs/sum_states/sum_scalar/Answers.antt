@@ -1,4 +1,4 @@
-use Rattle.std.proofs.Common.{◌≡◌, true, ap, ◌∙◌, rules}
+use Rattle.std.proofs.Common.{true, ap, ◌∙◌}
 use Rattle.dtype.specs.declared.ptype.DType.{DType}
 use Rattle.dtype.specs.declared.ptype.PType.{PType}
 use Rattle.aggregates.proofs.ScalarsRead.{is_null_scalar}

@@ -1,5 +1,4 @@
 use Rattle.std.proofs.Common.{◌≡◌, length, sym, subst}
-use Rattle.dtype.specs.declared.scalar.Scalar.{Scalar}
 use Rattle.aggregates.specs.CountModel.{count_model}
 use Rattle.readings.specs.NewBoards.{sheet_after}
 use Rattle.readings.specs.Totals.{CountReads}

@@ -1,4 +1,4 @@
-use Rattle.std.proofs.Common.{◌≡◌, sym, ◌∙◌, arith, length-set}
+use Rattle.std.proofs.Common.{sym, ◌∙◌, arith, length-set}
 use Rattle.runs.proofs.Pages.{page_step, page_end}
 use Rattle.runs.proofs.Running.{every_call_keeps, sites_keep}
 use Rattle.runs.proofs.list.run.Goals as goal

@@ -1,7 +1,6 @@
-use Rattle.std.proofs.Common.{◌≡◌, true, cond, Some, Option, sym, ap, ◌∙◌, rules}
+use Rattle.std.proofs.Common.{◌≡◌, true, cond, Some, sym, ap, ◌∙◌, rules}
 use Rattle.dtype.specs.declared.ptype.DType.{DType}
 use Rattle.dtype.specs.declared.ptype.PType.{PType}
-use Rattle.dtype.specs.declared.value.Value.{Value}
 use Rattle.dtype.specs.declared.value.Value.TheVariants as v
 use Rattle.dtype.specs.Same.{scalar_same}
 use Rattle.pairs.specs.Answers.{null_of, counts_nothing}
