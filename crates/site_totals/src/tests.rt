@@ -8,7 +8,7 @@ use std::test::Fail;
 fn bits_of_nine_readings(rt: HostRuntime) -> Result<(), Fail> {
     let x = Some(7u8);
     let bits = bitmap_of(rt.alloc(), &[x, None, x, x, None, None, None, x, x])?;
-    assert!(rt; bits.as_slice() == &[141, 1]);
+    assert!(rt; bits.as_slice() == [141, 1].as_slice());
     Ok(())
 }
 
