@@ -1,18 +1,17 @@
 -- What the laws of an aggregate give of its accumulators. Assumes nothing.
-use Rattle.std.proofs.Common.{◌≡◌, ℕ, true, ◌⊎◌, List, [], ◌∷◌, ◌++◌, Some, None, Ok, Option, sym, refl, ap, ◌∙◌, subst, inl, inr, ⊎_elim, arith}
+use Rattle.std.proofs.Common.{◌≡◌, true, ◌⊎◌, List, [], ◌∷◌, ◌++◌, Some, None, Ok, Option, sym, refl, ◌∙◌, inl, inr, arith}
 use Rattle.std.proofs.lemmas.List.{append-nil}
-use Rattle.std.proofs.lemmas.Bool.{cond-true, cond-false, false≢true, cases_Bool}
+use Rattle.std.proofs.lemmas.Bool.{cond_both}
 use Rattle.dtype.specs.declared.ptype.DType.{DType}
 use Rattle.dtype.specs.declared.precision.Precision.TheVariants.{Exact}
 use Rattle.dtype.specs.declared.scalar.Scalar.{Scalar}
 use Rattle.dtype.specs.declared.statistics.Statistics.{Statistics}
 use Rattle.dtype.specs.Same.{type_same}
-use Rattle.dtype.specs.Types.{has_same_type}
 use Rattle.columns.specs.Columns.{Meaning, Proper}
 use Rattle.column_sums.specs.Lots.{Lot, column_lots}
 use Rattle.column_sums.specs.Records.{RightSum, Truthful}
 use Rattle.aggregates.specs.Sheets.{Sheet, handed, lots, Reordered, same, keep, swap, then}
-use Rattle.aggregates.specs.Model.{Model, Lawful, Step, Holds, Gains, Accepted, started, gathered, column_step}
+use Rattle.aggregates.specs.Model.{Model, Lawful, Step, Holds, Gains, Accepted, started, gathered}
 use Rattle.accumulators.specs.declared.accumulator.Accumulator.{Accumulator}
 use Rattle.accumulators.specs.Accumulators.{Ran, Fits, unused, with_partial, saturated_by, saturated_now, scalar_now, answer_now, stepped, accumulated, folded, merged_into}
 use Rattle.accumulators.specs.Belonging.{Belongs, Belonging}
@@ -29,8 +28,8 @@ gains_twice c k k' k'' g h = record { nans = h.nans ∙ g.nans; sum = both h.sum
 -- a reordered empty sheet is empty
 reordered_none : {X : Type 0} {s t : List X} → Reordered s t → s ≡ [] → t ≡ []
 reordered_none same e = e
-reordered_none (keep x r) e = absurd (let z : ◌≡◌ {A = ℕ} 0 1 = cc in omega arith)
-reordered_none (swap x y) e = absurd (let z : ◌≡◌ {A = ℕ} 0 1 = cc in omega arith)
+reordered_none (keep x r) e = absurd cc
+reordered_none (swap x y) e = absurd cc
 reordered_none (then r q) e = reordered_none q (reordered_none r e)
 
 -- what another accumulator held, merged in
@@ -40,12 +39,12 @@ merging m o d p (Some q) = Some (gathered m o d p q)
 
 module _ {O P S A : Type 0} (m : Model O P S A) (laws : Lawful m) where
   holds_stays : (o : O) (d : DType) (s : Sheet S) (p : Option P) (ls : List Lot) → saturated_by m o d p ≡ true → Holds m o d s p → Holds m o d (s ++ lots ls) p
-  holds_stays o d s None ls h a = absurd (false≢true h)
+  holds_stays o d s None ls h a = cc
   holds_stays o d s (Some p) ls h a = laws.saturated_stays_allowed o d s p ls h a
 
   holds_joins : (o : O) (d : DType) (s t : Sheet S) (p q : Option P) → Holds m o d s p → Holds m o d t q → Holds m o d (s ++ t) (merging m o d p q)
-  holds_joins o d s t p None a b = subst (λ (x : Sheet S). Holds m o d x p) (sym (ap (λ x. s ++ x) b ∙ append-nil s)) a
-  holds_joins o d s t None (Some q) a b = subst (λ (x : Sheet S). m.allowed o d (x ++ t) q) (sym a) b
+  holds_joins o d s t p None a b = rw (b, append-nil s) a
+  holds_joins o d s t None (Some q) a b = rw a b
   holds_joins o d s t (Some p) (Some q) a b = laws.merging_adds_sheets o d s t p q a b
 
   holds_reordered : (o : O) (d : DType) (s t : Sheet S) (p : Option P) → Reordered s t → Holds m o d s p → Holds m o d t p
@@ -62,17 +61,15 @@ module _ {O P S A : Type 0} (m : Model O P S A) (laws : Lawful m) where
 
   -- what an accumulator reads as is allowed for its sheet
   pub allowed_started : (o : O) (d : DType) (s : Sheet S) (p : Option P) → Holds m o d s p → m.allowed o d s (started m o d p)
-  allowed_started o d s None h = subst (λ (z : Sheet S). m.allowed o d z (m.empty o d)) (sym h) (laws.empty_allowed o d)
+  allowed_started o d s None h = rw h (laws.empty_allowed o d)
   allowed_started o d s (Some p) h = h
 
   saturates_merging : (o : O) (d : DType) (p q : Option P) → Belongs m o d p → Belongs m o d q → (saturated_by m o d p ≡ true) ⊎ (saturated_by m o d q ≡ true) → saturated_by m o d (merging m o d p q) ≡ true
-  saturates_merging o d p None a b h = ⊎_elim (λ x. x) (λ x. absurd (false≢true x)) h
-  saturates_merging o d None (Some q) a b h = ⊎_elim (λ x. absurd (false≢true x)) (λ x. x) h
-  saturates_merging o d (Some p) (Some q) a b h = laws.merging_saturates o d p q a b h
+  saturates_merging o d p q a b h = grind (arith, laws.merging_saturates)
 
 -- a fact at the options and the dtype, moved to those of an accumulator
 pub moved : {O : Type 0} (F : O → DType → Type 0) (o o' : O) (d d' : DType) → o' ≡ o → d' ≡ d → F o d → F o' d'
-moved {O} F o o' d d' e f h = subst (λ (x : O). F x d') (sym e) (subst (λ (y : DType). F o y) (sym f) h)
+moved F o o' d d' e f h = rw (e, f) h
 
 -- An accepted column: the record stays truthful and gains at most the column's sum, and the column's lots are added.
 pub record Added {V O P S A : Type 0} (m : Model O P S A) (o : O) (d : DType) (c : Meaning) (k : Statistics) (s : Sheet S) (r : Ran (Accumulator V O P S A)) : Type 0 where
@@ -96,16 +93,16 @@ module _ {V O P S A : Type 0} (m : Model O P S A) (laws : Lawful m) where
   fits_stays o d s a ls h f = record {
     options = f.options;
     dtype = f.dtype;
-    holds = holds_stays m laws o d s a.partial ls (moved (λ x y. saturated_by m x y a.partial ≡ true) a.options o a.dtype d (sym f.options) (sym f.dtype) h) f.holds;
+    holds = holds_stays m laws o d s a.partial ls (rw (f.options, f.dtype) at h) f.holds;
   }
 
   pub fits_joins : (o : O) (d : DType) (s t : Sheet S) (a b : Accumulator V O P S A) → Fits m o d s a → Fits m o d t b → Fits m o d (s ++ t) (merged_into m a b.partial)
   fits_joins o d s t a b f g =
-      subst (Fits m o d (s ++ t)) (sym (merged_partial a b.partial))
+      rw (merged_partial a b.partial)
       (record {
         options = f.options;
         dtype = f.dtype;
-        holds = moved (λ x y. Holds m o d (s ++ t) (merging m x y a.partial b.partial)) o a.options d a.dtype f.options f.dtype (holds_joins m laws o d s t a.partial b.partial f.holds g.holds);
+        holds = rw (f.options, f.dtype) (holds_joins m laws o d s t a.partial b.partial f.holds g.holds);
       })
 
   step_added : (o : O) (d : DType) (c : Meaning) (k : Statistics) (s : Sheet S) (a : Accumulator V O P S A) (r : Step P) → a.options ≡ o → a.dtype ≡ d → Accepted m o d c k s r → Added m o d c k s (stepped a r)
@@ -113,20 +110,15 @@ module _ {V O P S A : Type 0} (m : Model O P S A) (laws : Lawful m) where
     answered = h.answered;
     truthful = h.truthful;
     gains = h.gains;
-    fits = record { options = e; dtype = f; holds = subst (λ (x : Option P). Holds m o d (s ++ lots (column_lots c)) x) (sym h.holds) h.allowed };
+    fits = record { options = e; dtype = f; holds = rw h.holds h.allowed };
   }
 
   -- a column of the dtype with a truthful record is accepted, and its lots are added
   pub adds_column : (o : O) (d : DType) (c : Meaning) (k : Statistics) (s : Sheet S) (a : Accumulator V O P S A) → c.dtype ≡ d → Proper c → Truthful c k → Fits m o d s a → Added m o d c k s (accumulated m c k a)
   adds_column o d c k s a e good h f =
-      ⊎_elim
-      (λ y. subst (λ (x : Ran (Accumulator V O P S A)). Added m o d c k s x) (sym (cond-true (saturated_now m a) _ _ y)) (record { answered = refl; truthful = h; gains = record { nans = refl; sum = inl refl }; fits = fits_stays o d s a (column_lots c) y f }))
-      (λ n. subst (λ (x : Ran (Accumulator V O P S A)). Added m o d c k s x)
-      (sym (cond-false (saturated_now m a) _ _ n ∙ cond-true (has_same_type c.dtype a.dtype) _ _ (type_same c.dtype a.dtype (e ∙ sym f.dtype))))
-      (step_added o d c k s a _ f.options f.dtype
-      (moved (λ x y. Accepted m o d c k s (column_step m x y c k a.partial)) o a.options d a.dtype f.options f.dtype
-      (laws.accumulating_adds_lots o d c k s a.partial e good h f.holds))))
-      (cases_Bool (saturated_now m a))
+      cond_both (saturated_now m a) _ _ (Added m o d c k s)
+      (λ y. record { answered = refl; truthful = h; gains = record { nans = refl; sum = inl refl }; fits = fits_stays o d s a (column_lots c) y f })
+      (λ n. rw (type_same c.dtype a.dtype (e ∙ sym f.dtype)) (step_added o d c k s a _ f.options f.dtype (rw (f.options, f.dtype) (laws.accumulating_adds_lots o d c k s a.partial e good h f.holds))))
 
   pub fits_reordered : (o : O) (d : DType) (s t : Sheet S) (a : Accumulator V O P S A) → Reordered s t → Fits m o d s a → Fits m o d t a
   fits_reordered o d s t a r f = record { options = f.options; dtype = f.dtype; holds = holds_reordered m laws o d s t a.partial r f.holds }
@@ -136,13 +128,8 @@ module _ {V O P S A : Type 0} (m : Model O P S A) (laws : Lawful m) where
 
   pub accumulators_saturate : (o : O) (d : DType) (a b : Accumulator V O P S A) → Belonging m o d a → Belonging m o d b → (saturated_now m a ≡ true) ⊎ (saturated_now m b ≡ true) → saturated_now m (merged_into m a b.partial) ≡ true
   accumulators_saturate o d a b f g h =
-      ap (saturated_now m) (merged_partial a b.partial)
-      ∙ moved (λ x y. saturated_by m x y (merging m x y a.partial b.partial) ≡ true) o a.options d a.dtype f.options f.dtype
-      (saturates_merging m laws o d a.partial b.partial f.partial g.partial
-      (⊎_elim
-      (λ y. inl (moved (λ x z. saturated_by m x z a.partial ≡ true) a.options o a.dtype d (sym f.options) (sym f.dtype) y))
-      (λ y. inr (moved (λ x z. saturated_by m x z b.partial ≡ true) b.options o b.dtype d (sym g.options) (sym g.dtype) y))
-      h))
+      rw (merged_partial a b.partial, f.options, f.dtype)
+      (saturates_merging m laws o d a.partial b.partial f.partial g.partial (rw (f.options, f.dtype, g.options, g.dtype) at h))
 
   -- what is read, taken in and read again
   pub record ReadAgain (o : O) (d : DType) (a : Accumulator V O P S A) : Type 0 where
@@ -154,9 +141,9 @@ module _ {V O P S A : Type 0} (m : Model O P S A) (laws : Lawful m) where
   read_again o d a f =
       let l = laws.reads_again o d (started m o d a.partial) (started_belongs m laws o d a.partial f.partial) in
       record {
-        taken = moved (λ x y. m.takes o d (m.reads x y (started m x y a.partial)) ≡ true) o a.options d a.dtype f.options f.dtype l.taken;
-        scalar = moved (λ x y. m.reads o d (m.taken o d (m.reads x y (started m x y a.partial))) ≡ m.reads x y (started m x y a.partial)) o a.options d a.dtype f.options f.dtype l.scalar;
-        answer = moved (λ x y. m.final o d (m.taken o d (m.reads x y (started m x y a.partial))) ≡ m.final x y (started m x y a.partial)) o a.options d a.dtype f.options f.dtype l.answer;
+        taken = rw (f.options, f.dtype) l.taken;
+        scalar = rw (f.options, f.dtype) l.scalar;
+        answer = rw (f.options, f.dtype) l.answer;
       }
 
   -- the final answer is that of a partial allowed for the sheet
@@ -164,5 +151,5 @@ module _ {V O P S A : Type 0} (m : Model O P S A) (laws : Lawful m) where
   fits_answer o d s a f = (
     started m o d a.partial,
     allowed_started m laws o d s a.partial f.holds,
-    moved (λ y z. m.final y z (started m y z a.partial) ≡ m.final o d (started m o d a.partial)) o a.options d a.dtype f.options f.dtype refl,
+    rw (f.options, f.dtype),
   )

@@ -1,9 +1,9 @@
 -- What a merge of two sites answers and leaves. Assumes nothing.
-use Rattle.std.proofs.Common.{◌≡◌, ℕ, ◌<◌, ◌≤◌, eqb, List, length, get_or, set, Some, None, Ok, Err, Option, sym, refl, ap, ◌∙◌}
+use Rattle.std.proofs.Common.{◌≡◌, ℕ, ◌<◌, ◌≤◌, List, length, get_or, set, Some, None, Ok, Err, Option, refl}
 use Rattle.std.specs.List.{slice_get}
 use Rattle.std.proofs.lemmas.List.{get_or-set_other}
 use Rattle.std.proofs.lemmas.Option.{slice_get_past, slice_get-get_or}
-use Rattle.std.proofs.lemmas.Bool.{cond-true, cond-false, eq-eqb, ne_eqb}
+use Rattle.std.proofs.lemmas.Bool.{eq-eqb, ne_eqb}
 use Rattle.dtype.specs.declared.refusal.Refusal.TheVariants.{NoSuchSite, SameSite}
 use Rattle.aggregates.specs.Model.{Model}
 use Rattle.accumulators.specs.declared.accumulator.Accumulator.{Accumulator}
@@ -16,26 +16,21 @@ module _ {V O P S A : Type 0} (m : Model O P S A) where
   accepted row = record { answer = Ok tt; after = row }
 
   pub past_first : (row : List (Accumulator V O P S A)) (i j : ℕ) → length row ≤ i → board_merged m row i j (slice_get row i) (slice_get row j) ≡ record { answer = Err NoSuchSite; after = row }
-  past_first row i j h = ap (λ x. board_merged m row i j x (slice_get row j)) (slice_get_past row i h)
+  past_first row i j h = rw (slice_get_past row i h)
 
   none_second : (row : List (Accumulator V O P S A)) (i j : ℕ) (a : Option (Accumulator V O P S A)) → board_merged m row i j a None ≡ record { answer = Err NoSuchSite; after = row }
   none_second row i j None = refl
   none_second row i j (Some a) = refl
 
   pub past_second : (row : List (Accumulator V O P S A)) (i j : ℕ) → length row ≤ j → board_merged m row i j (slice_get row i) (slice_get row j) ≡ record { answer = Err NoSuchSite; after = row }
-  past_second row i j h = ap (λ x. board_merged m row i j (slice_get row i) x) (slice_get_past row j h) ∙ none_second row i j (slice_get row i)
-
-  both_there : (row : List (Accumulator V O P S A)) (i j : ℕ) (a b : Accumulator V O P S A) → slice_get row i ≡ Some a → slice_get row j ≡ Some b → board_merged m row i j (slice_get row i) (slice_get row j) ≡ board_merged m row i j (Some a) (Some b)
-  both_there row i j a b e f = ap (λ x. board_merged m row i j x (slice_get row j)) e ∙ ap (λ x. board_merged m row i j (Some a) x) f
+  past_second row i j h = rw (slice_get_past row j h) (none_second row i j (slice_get row i))
 
   pub same_site : (row : List (Accumulator V O P S A)) (i j : ℕ) → i < length row → j < length row → i ≡ j → board_merged m row i j (slice_get row i) (slice_get row j) ≡ record { answer = Err SameSite; after = row }
   same_site row i j h k e =
       let a = there row i h in
       let b = there row j k in
-      both_there row i j a.0 b.0 a.1 b.1 ∙ cond-true (eqb i j) _ _ (eq-eqb i j e)
+      rw (a.1, b.1, eq-eqb i j e)
 
   pub two_sites : (row : List (Accumulator V O P S A)) (i j : ℕ) (x y : Accumulator V O P S A) → i < length row → j < length row → (i ≡ j → ⊥) → board_merged m row i j (slice_get row i) (slice_get row j) ≡ accepted (set (set row j (with_partial (get_or row j y) None)) i (merged_into m (get_or (set row j (with_partial (get_or row j y) None)) i x) (get_or row j y).partial))
   two_sites row i j x y h k ne =
-      both_there row i j (get_or row i x) (get_or row j y) (slice_get-get_or row i x h) (slice_get-get_or row j y k)
-      ∙ cond-false (eqb i j) _ _ (ne_eqb i j ne)
-      ∙ ap (λ z. accepted (set (set row j (with_partial (get_or row j y) None)) i (merged_into m z (get_or row j y).partial))) (sym (get_or-set_other row j i (with_partial (get_or row j y) None) x ne))
+      rw (slice_get-get_or row i x h, slice_get-get_or row j y k, ne_eqb i j ne, get_or-set_other row j i (with_partial (get_or row j y) None) x ne)

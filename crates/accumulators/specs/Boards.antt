@@ -1,6 +1,6 @@
 -- A board: what each call on a row of accumulators answers and leaves. Assumes nothing.
 -- The site that a call names is looked up first and handed on last, so that each definition goes by cases.
-use Rattle.std.specs.Prelude.{ℕ, Bool, true, false, cond, List, [], replicate, Some, None, Ok, Err, Option, Result, ◌==◌, nat_lt, slice_set}
+use Rattle.std.specs.Prelude.{◌≡◌, ℕ, Bool, true, false, cond, List, [], replicate, Some, None, Ok, Err, Option, Result, ◌==◌, nat_lt, slice_set}
 use Rattle.dtype.specs.declared.ptype.DType.{DType}
 use Rattle.dtype.specs.declared.refusal.Refusal.{Refusal}
 use Rattle.dtype.specs.declared.refusal.Refusal.TheVariants.{BoardSize, NoSuchSite, SameSite}
@@ -45,6 +45,11 @@ board_merged m row i j (Some a) (Some b) = cond (i == j) (record { answer = Err 
 abbrev pub site_read : {X Y : Type 0} → (X → Y) → Option X → Result Y Refusal
 site_read f None = Err NoSuchSite
 site_read f (Some a) = Ok (f a)
+
+-- What a call at a site answers and leaves, by what it may answer and leave of an accumulator; without the site it is refused.
+abbrev pub CallsSite : {X Y : Type 0} → (X → Y → X → Type 0) → List X → ℕ → Option X → Result Y Refusal → List X → Type 0
+CallsSite Met row i None r row' = (r ≡ Err NoSuchSite) × (row' ≡ row)
+CallsSite {X} {Y} Met row i (Some a) r row' = (y : Y) × (b : X) × Met a y b × (r ≡ Ok y) × (row' ≡ slice_set row i b)
 
 -- a site that has no partial any more
 abbrev pub board_cleared : {V O P S A : Type 0} → List (Accumulator V O P S A) → ℕ → Option (Accumulator V O P S A) → List (Accumulator V O P S A)

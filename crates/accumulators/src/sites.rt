@@ -1,37 +1,42 @@
 // The calls of a board on the slice that it holds.
 ghost use Rattle.std.specs.Prelude.{◌≡◌, length, replicate};
+ghost use Rattle.std.specs.Fn.{FnOnceReturnsAtMut};
 ghost use Rattle.std.specs.List.{slice_get};
 ghost use Rattle.accumulators.specs.Accumulators.{unused};
-ghost use Rattle.accumulators.specs.Boards.{board_accumulated, board_combined, board_merged, board_cleared, site_reset, site_scalar, site_answer, site_saturated};
+ghost use Rattle.accumulators.specs.Boards.{CallsSite, board_accumulated, board_merged};
 
 use crate::accumulator::Accumulator;
-use aggregates::{AggregateColumns, AggregateFn, AggregateQuestions};
+use aggregates::AggregateFn;
 use columns::Column;
 use dtype::{DType, Refusal, Statistics};
 
-// Makes every accumulator new.
+// Makes every accumulator new. Tried: `fill_with`, which the check does not cover where the closure's result names a type
+// parameter.
 pub(crate) fn renew<V: AggregateFn>(sites: &mut [Accumulator<V>], options: V::Options, dtype: DType)
     ensures { sites.new ≡ replicate (length sites.old) (unused options dtype) }
 {
-    for site in sites.iter_mut() {
-        *site = Accumulator::<V>::new(options, dtype);
+    for site in sites {
+        *site = Accumulator::new(options, dtype);
     }
 }
 
-pub(crate) fn combine_at<V: AggregateFn>(
+// What a call answers at a site. Without the site it is refused. By an index: std says of `get_mut` on a slice
+// nothing of what the slice ends as.
+pub(crate) fn at_site<V: AggregateFn, R, F: FnOnce(&mut Accumulator<V>) -> R>(
     sites: &mut [Accumulator<V>],
     at: usize,
-    scalar: V::PartialScalar,
-) -> Result<(), Refusal>
-    ensures { board_combined V.AggregateFn.model scalar sites.old at (slice_get sites.old at) ≡ record { answer = result; after = sites.new } }
+    call: F,
+) -> Result<R, Refusal>
+    requires { F.IsAlwaysCallable call }
+    ensures { CallsSite (FnOnceReturnsAtMut F.FnOnce call) sites.old at (slice_get sites.old at) result sites.new }
 {
     if at >= sites.len() {
         return Err(Refusal::NoSuchSite);
     }
-    sites[at].combine_partials(scalar)
+    Ok(call(&mut sites[at]))
 }
 
-// The partial of one site, if any, moves to the other.
+// The partial of one site, if any, moves to the other. By two indices: `get_disjoint_mut` is refused.
 pub(crate) fn merge_at<V: AggregateFn>(
     sites: &mut [Accumulator<V>],
     into: usize,
@@ -45,98 +50,14 @@ pub(crate) fn merge_at<V: AggregateFn>(
     if into == from {
         return Err(Refusal::SameSite);
     }
-    let other = sites[from].partial.take();
+    let other = sites[from].take_partial();
     sites[into].fold_taken(other);
     Ok(())
 }
 
-// The site keeps its options and its dtype, and has no partial.
-pub(crate) fn reset_at<V: AggregateFn>(
-    sites: &mut [Accumulator<V>],
-    at: usize,
-) -> Result<(), Refusal>
-    ensures answer { result ≡ site_reset (slice_get sites.old at) }
-    ensures after { sites.new ≡ board_cleared sites.old at (slice_get sites.old at) }
-{
-    if at >= sites.len() {
-        return Err(Refusal::NoSuchSite);
-    }
-    let options = sites[at].options;
-    let dtype = sites[at].dtype;
-    sites[at] = Accumulator {
-        options,
-        dtype,
-        partial: None,
-    };
-    Ok(())
-}
-
-pub(crate) fn partial_at<V: AggregateQuestions>(
-    sites: &mut [Accumulator<V>],
-    at: usize,
-) -> Result<V::PartialScalar, Refusal>
-    ensures answer { result ≡ site_scalar V.AggregateFn.model (slice_get sites.old at) }
-    ensures same { sites.new ≡ sites.old }
-{
-    if at >= sites.len() {
-        return Err(Refusal::NoSuchSite);
-    }
-    Ok(sites[at].partial_scalar())
-}
-
-pub(crate) fn final_at<V: AggregateQuestions>(
-    sites: &mut [Accumulator<V>],
-    at: usize,
-) -> Result<V::Answer, Refusal>
-    ensures answer { result ≡ site_answer V.AggregateFn.model (slice_get sites.old at) }
-    ensures same { sites.new ≡ sites.old }
-{
-    if at >= sites.len() {
-        return Err(Refusal::NoSuchSite);
-    }
-    Ok(sites[at].final_scalar())
-}
-
-pub(crate) fn saturated_at<V: AggregateQuestions>(
-    sites: &mut [Accumulator<V>],
-    at: usize,
-) -> Result<bool, Refusal>
-    ensures answer { result ≡ site_saturated V.AggregateFn.model (slice_get sites.old at) }
-    ensures same { sites.new ≡ sites.old }
-{
-    if at >= sites.len() {
-        return Err(Refusal::NoSuchSite);
-    }
-    Ok(sites[at].is_saturated())
-}
-
-pub(crate) fn flush_at<V: AggregateQuestions>(
-    sites: &mut [Accumulator<V>],
-    at: usize,
-) -> Result<V::PartialScalar, Refusal>
-    ensures answer { result ≡ site_scalar V.AggregateFn.model (slice_get sites.old at) }
-    ensures after { sites.new ≡ board_cleared sites.old at (slice_get sites.old at) }
-{
-    if at >= sites.len() {
-        return Err(Refusal::NoSuchSite);
-    }
-    Ok(sites[at].flush())
-}
-
-pub(crate) fn finish_at<V: AggregateQuestions>(
-    sites: &mut [Accumulator<V>],
-    at: usize,
-) -> Result<V::Answer, Refusal>
-    ensures answer { result ≡ site_answer V.AggregateFn.model (slice_get sites.old at) }
-    ensures after { sites.new ≡ board_cleared sites.old at (slice_get sites.old at) }
-{
-    if at >= sites.len() {
-        return Err(Refusal::NoSuchSite);
-    }
-    Ok(sites[at].finish())
-}
-
-pub(crate) fn accumulate_at<V: AggregateColumns, C: Column>(
+// The column goes to the site with a copy of the record, which the call answers too: the check does not know what a closure
+// leaves in a record that it borrows.
+pub(crate) fn accumulate_at<V: AggregateFn, C: Column>(
     sites: &mut [Accumulator<V>],
     at: usize,
     column: &C,
@@ -144,8 +65,12 @@ pub(crate) fn accumulate_at<V: AggregateColumns, C: Column>(
 ) -> Result<(), Refusal>
     ensures { board_accumulated V.AggregateFn.model (C.Column.meaning column.now) stats.old sites.old at (slice_get sites.old at) ≡ record { answer = result; stats = stats.new; after = sites.new } }
 {
-    if at >= sites.len() {
-        return Err(Refusal::NoSuchSite);
-    }
-    sites[at].accumulate(column, stats)
+    let before = *stats;
+    let (answer, after) = at_site(sites, at, |site| {
+        let mut record = before;
+        let answer = site.accumulate(column, &mut record);
+        (answer, record)
+    })?;
+    *stats = after;
+    answer
 }

@@ -1,16 +1,16 @@
 -- Count keeps every law of an aggregate. Assumes nothing.
-use Rattle.std.specs.Prelude.{◌≡◌, ℕ, ◌+◌, ◌^◌, Bool, true, false, cond, ◌⊎◌, ◌++◌, Some, None, Option, nat_lt, refl}
-use Rattle.std.proofs.Common.{sym, ap, subst, ◌∙◌, inl, ⊎_elim, arith}
+use Rattle.std.specs.Prelude.{◌≡◌, ℕ, ◌+◌, Bool, true, false, cond, ◌⊎◌, ◌++◌, Some, None, Option, refl}
+use Rattle.std.proofs.Common.{sym, ap, ◌∙◌, inl, arith}
 use Rattle.std.proofs.lemmas.List.Sums.{sum_by-append}
-use Rattle.std.proofs.lemmas.Bool.{cases_lt, ltb-true, cond_both, false≢true}
+use Rattle.std.proofs.lemmas.Bool.Decides.{nat_tests}
 use Rattle.dtype.specs.declared.ptype.DType.{DType}
 use Rattle.dtype.specs.declared.scalar.Scalar.{Scalar}
 use Rattle.dtype.specs.declared.statistics.Statistics.{Statistics}
 use Rattle.dtype.specs.declared.value.Value.{Value}
-use Rattle.dtype.specs.Same.{same_dtype}
+use Rattle.dtype.specs.Same.{same_dtype, type_same}
 use Rattle.dtype.specs.Types.{has_same_type}
 use Rattle.sums.specs.Sums.{unsigned64, checked, step}
-use Rattle.sums.proofs.Products.{checked_over, checked_within}
+use Rattle.sums.proofs.Products.{checked_within}
 use Rattle.columns.specs.Columns.{Meaning, Proper}
 use Rattle.column_sums.specs.Counts.{column_count}
 use Rattle.column_sums.specs.Lots.{column_lots}
@@ -24,67 +24,37 @@ use Rattle.aggregates.specs.CountModel.{counting, count_dtype, scalar_of_count, 
 use Rattle.aggregates.specs.SheetTotals.{lots_sum, null-++, null_more, reordered_sum, reordered_null}
 
 -- ---- counts that are null past 2^64 - 1
-step_checked : (m n : ℕ) → step unsigned64 (checked unsigned64 m) n ≡ checked unsigned64 (m + n)
-step_checked m n =
-    ⊎_elim (λ low. ap (λ q. step unsigned64 q n) (sym (checked_within m low)))
-    (λ high. ap (λ q. step unsigned64 q n) (sym (checked_over m high)) ∙ checked_over (m + n) (omega arith))
-    (cases_lt m (2 ^ 64))
-
-merged_checked : (m n : ℕ) → merged_counts (checked unsigned64 m) (checked unsigned64 n) ≡ checked unsigned64 (m + n)
-merged_checked m n =
-    ⊎_elim (λ low. ap (merged_counts (checked unsigned64 m)) (sym (checked_within n low)) ∙ step_checked m n)
-    (λ high. ap (merged_counts (checked unsigned64 m)) (sym (checked_over n high)) ∙ checked_over (m + n) (omega arith))
-    (cases_lt n (2 ^ 64))
-
 null_merged : (q : Option ℕ) → merged_counts None q ≡ None
-null_merged None = refl
-null_merged (Some n) = refl
+null_merged q = grind arith
 
 merged_or_null : (a b : Bool) (m n : ℕ) → merged_counts (cond a None (checked unsigned64 m)) (cond b None (checked unsigned64 n)) ≡ cond (cond a true b) None (checked unsigned64 (m + n))
-merged_or_null true b m n = null_merged (cond b None (checked unsigned64 n))
-merged_or_null false false m n = merged_checked m n
-merged_or_null false true m n = refl
+merged_or_null a b m n = grind (arith, nat_tests)
 
 added_or_null : (a : Bool) (m n : ℕ) → step unsigned64 (cond a None (checked unsigned64 m)) n ≡ cond a None (checked unsigned64 (m + n))
-added_or_null true m n = refl
-added_or_null false m n = step_checked m n
+added_or_null a m n = grind (arith, nat_tests)
 
 -- ---- sheets
 exact-++ : (s t : Sheet Scalar) → merged_counts (exact_count s) (exact_count t) ≡ exact_count (s ++ t)
-exact-++ s t =
-    merged_or_null (holds_null s) (holds_null t) (count_total s) (count_total t)
-    ∙ ap (λ n. cond (cond (holds_null s) true (holds_null t)) None (checked unsigned64 n)) (sym (sum_by-append count_item s t))
-    ∙ ap (λ b. cond b None (checked unsigned64 (count_total (s ++ t)))) (sym (null-++ s t))
+exact-++ s t = rw (null-++ s t, sum_by-append count_item s t) (merged_or_null (holds_null s) (holds_null t) (count_total s) (count_total t))
 
 -- a column's count is that of its lots
 exact_more : (s : Sheet Scalar) (c : Meaning) → step unsigned64 (exact_count s) (column_count c) ≡ exact_count (s ++ lots (column_lots c))
 exact_more s c =
     let ls = column_lots c in
-    added_or_null (holds_null s) (count_total s) (column_count c)
-    ∙ ap (λ n. cond (holds_null s) None (checked unsigned64 (count_total s + n))) (sym (lots_sum count_item ls))
-    ∙ ap (λ n. cond (holds_null s) None (checked unsigned64 n)) (sym (sum_by-append count_item s (lots ls)))
-    ∙ ap (λ b. cond b None (checked unsigned64 (count_total (s ++ lots ls)))) (sym (null_more s ls))
-
-exact_fits : (b : Bool) (n : ℕ) → CountFits (cond b None (checked unsigned64 n))
-exact_fits true n = tt
-exact_fits false n = cond_both (nat_lt n (2 ^ 64)) (Some n) None CountFits (λ e. ltb-true n (2 ^ 64) e) (λ e. tt)
+    rw (null_more s ls, sum_by-append count_item s (lots ls), lots_sum count_item ls) (added_or_null (holds_null s) (count_total s) (column_count c))
 
 taken_exact : (o : Option Value) → taken_count o ≡ cond (cond (is_null o) true false) None (checked unsigned64 (0 + nat_in o))
-taken_exact None = refl
-taken_exact (Some x) = ap (checked unsigned64) (omega arith)
+taken_exact o = grind (arith, nat_tests)
 
 null_stays : (s t : Sheet Scalar) (q : Option ℕ) → is_null q ≡ true → q ≡ exact_count s → q ≡ exact_count (s ++ t)
-null_stays s t None h e = sym (null_merged (exact_count t)) ∙ ap (λ q. merged_counts q (exact_count t)) e ∙ exact-++ s t
-null_stays s t (Some n) h e = absurd (false≢true h)
+null_stays s t None h e = cc (null_merged (exact_count t), exact-++ s t)
+null_stays s t (Some n) h e = cc
 
 null_either_side : (q r : Option ℕ) → (is_null q ≡ true) ⊎ (is_null r ≡ true) → is_null (merged_counts q r) ≡ true
-null_either_side q None h = refl
-null_either_side None (Some n) h = refl
-null_either_side (Some m) (Some n) h = absurd (⊎_elim false≢true false≢true h)
+null_either_side q r h = grind arith
 
 takes_own : (q : Option ℕ) → has_same_type (scalar_of_count q).dtype count_dtype ≡ true
-takes_own None = refl
-takes_own (Some n) = refl
+takes_own q = grind arith
 
 reads_same : (q : Option ℕ) → CountFits q → scalar_of_count (taken_count (scalar_of_count q).value) ≡ scalar_of_count q
 reads_same None h = refl
@@ -102,17 +72,17 @@ adds_lots o d c k s q e good truth h = record {
   gains = record { nans = refl; sum = inl refl };
   after = counting (step unsigned64 (started count_model o d q).current (column_count c));
   holds = refl;
-  allowed = ap (λ n. step unsigned64 n (column_count c)) (begins_exact o d s q h) ∙ exact_more s c;
+  allowed = rw (begins_exact o d s q h) (exact_more s c);
 }
 
 pub count_lawful : Lawful count_model
 count_lawful = record {
-  takes_its_dtype = λ o d x e. ap (λ (t : DType). has_same_type t count_dtype) e;
+  takes_its_dtype = λ o d x e. type_same x.dtype count_dtype e;
   takes_no_other = λ o d x h. same_dtype x.dtype count_dtype h;
-  allowed_belongs = λ o d s q e. subst CountFits (sym e) (exact_fits (holds_null s) (count_total s));
+  allowed_belongs = λ o d s q e. rw e (grind (arith, nat_tests));
   empty_allowed = λ o d. refl;
   empty_not_saturated = λ o d. refl;
-  merging_adds_sheets = λ o d s t q r e f. ap (λ x. merged_counts x r.current) e ∙ ap (merged_counts (exact_count s)) f ∙ exact-++ s t;
+  merging_adds_sheets = λ o d s t q r e f. rw (e, f) (exact-++ s t);
   accumulating_adds_lots = adds_lots;
   scalar_allowed = λ o d x h. taken_exact x.value;
   saturated_stays_allowed = λ o d s q ls. null_stays s (lots ls) q.current;

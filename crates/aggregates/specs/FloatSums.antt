@@ -1,14 +1,14 @@
 -- Sum at the float types: null and every float state is allowed, and a NaN stays. Assumes nothing.
-use Rattle.std.specs.Prelude.{◌≡◌, Bool, true, not, T, ◌⊎◌, Some, None, Option, refl, Float}
-use Rattle.std.proofs.Common.{sym, ap, subst, ◌∙◌, ⊎_elim}
+use Rattle.std.specs.Prelude.{◌≡◌, Bool, true, ◌⊎◌, Some, None, Option, refl, Float}
+use Rattle.std.proofs.Common.{ap, ⊎_elim, arith}
 use Rattle.std.specs.Float.{nan, inf, fin, binary64}
 use Rattle.std.specs.Float.Ieee.{add, is_nan, of_bits, to_bits}
 use Rattle.std.specs.Float.Ieee.Bits.{of_bits-to_bits}
 use Rattle.std.specs.Float.Ieee.Fits.{add-fits}
-use Rattle.std.proofs.lemmas.Bool.{false≢true}
 use Rattle.dtype.specs.declared.ptype.Family.TheVariants as family
 use Rattle.dtype.specs.declared.value.Value.{Value}
 use Rattle.dtype.specs.Values.{float_of}
+use Rattle.sums.proofs.NanBits.{nan_is}
 use Rattle.sums.specs.declared.state.SumState.{SumState}
 use Rattle.sums.specs.declared.state.SumState.TheVariants.{Unsigned, Signed, Float as Floating}
 use Rattle.sums.specs.States.{held, kept, nan_pattern}
@@ -29,7 +29,7 @@ float_adds small b skip c (Some (Unsigned a)) h = absurd h
 float_adds small b skip c (Some (Signed a)) h = absurd h
 float_adds small b skip c (Some (Floating a)) h =
     let r = column_adds_floats small b skip c a in
-    subst (OfFamily family.Float) (sym r.1) (r.2 h)
+    rw r.1 (r.2 h)
 
 pub float_joins : (p q : Option SumState) → OfFamily family.Float p → OfFamily family.Float q → OfFamily family.Float (merged_states p q)
 float_joins None q h k = tt
@@ -50,31 +50,21 @@ sum_held x y = of_bits-to_bits binary64 (add binary64 x y) (add-fits binary64 x 
 
 nan_left : (x y : Float) → is_nan x ≡ true → is_nan (add binary64 x y) ≡ true
 unfolding add is_nan
-nan_left nan y h = refl
-nan_left (inf s) y h = absurd (subst (λ (b : Bool). T (not b)) h tt)
-nan_left (fin s m e) y h = absurd (subst (λ (b : Bool). T (not b)) h tt)
+nan_left x y h = rw (nan_is x h)
 
 nan_right : (x y : Float) → is_nan y ≡ true → is_nan (add binary64 x y) ≡ true
 unfolding add is_nan
 nan_right nan y h = refl
-nan_right (inf s) nan h = refl
-nan_right (fin s m e) nan h = refl
-nan_right (inf s) (inf t) h = absurd (subst (λ (b : Bool). T (not b)) h tt)
-nan_right (inf s) (fin t n d) h = absurd (subst (λ (b : Bool). T (not b)) h tt)
-nan_right (fin s m e) (inf t) h = absurd (subst (λ (b : Bool). T (not b)) h tt)
-nan_right (fin s m e) (fin t n d) h = absurd (subst (λ (b : Bool). T (not b)) h tt)
+nan_right (inf s) y h = rw (nan_is y h)
+nan_right (fin s m e) y h = rw (nan_is y h)
 
 -- null or NaN on either side leaves null or NaN
 pub full_either_side : (p q : Option SumState) → (full p ≡ true) ⊎ (full q ≡ true) → full (merged_states p q) ≡ true
 full_either_side None q h = refl
 full_either_side (Some a) None h = refl
-full_either_side (Some (Unsigned a)) (Some (Unsigned b)) h = absurd (⊎_elim false≢true false≢true h)
-full_either_side (Some (Unsigned a)) (Some (Signed b)) h = refl
-full_either_side (Some (Unsigned a)) (Some (Floating b)) h = refl
-full_either_side (Some (Signed a)) (Some (Unsigned b)) h = refl
-full_either_side (Some (Signed a)) (Some (Signed b)) h = absurd (⊎_elim false≢true false≢true h)
-full_either_side (Some (Signed a)) (Some (Floating b)) h = refl
+full_either_side (Some (Unsigned a)) (Some b) h = grind arith
+full_either_side (Some (Signed a)) (Some b) h = grind arith
 full_either_side (Some (Floating a)) (Some (Unsigned b)) h = refl
 full_either_side (Some (Floating a)) (Some (Signed b)) h = refl
 full_either_side (Some (Floating a)) (Some (Floating b)) h =
-    ap is_nan (sum_held (held a) (held b)) ∙ ⊎_elim (nan_left (held a) (held b)) (nan_right (held a) (held b)) h
+    rw (sum_held (held a) (held b)) (⊎_elim (nan_left (held a) (held b)) (nan_right (held a) (held b)) h)

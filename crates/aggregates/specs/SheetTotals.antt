@@ -1,6 +1,6 @@
 -- Totals of sheets: joined, reordered, and of lots alone. Assumes nothing.
-use Rattle.std.specs.Prelude.{◌≡◌, ℕ, ◌+◌, Bool, true, false, cond, List, [], ◌∷◌, ◌++◌, ℤ, pos, ◌+ℤ◌, fold, sum_by, refl}
-use Rattle.std.proofs.Common.{sym, ap, ◌∙◌, arith}
+use Rattle.std.specs.Prelude.{◌≡◌, ℕ, ◌+◌, true, false, cond, List, [], ◌∷◌, ◌++◌, ℤ, pos, ◌+ℤ◌, fold, sum_by, refl}
+use Rattle.std.proofs.Common.{◌∙◌, arith}
 use Rattle.std.proofs.lemmas.List.Sums.{sum_by-cons}
 use Rattle.std.proofs.lemmas.Int.{ints}
 use Rattle.dtype.specs.declared.scalar.Scalar.{Scalar}
@@ -34,47 +34,34 @@ pub null-++ : (s t : Sheet Scalar) → holds_null (s ++ t) ≡ cond (holds_null 
 null-++ [] t = refl
 null-++ (x ∷ s) t = elim (null_item x) as (λ b. cond b true (holds_null (s ++ t)) ≡ cond (cond b true (holds_null s)) true (holds_null t)) [ true ↦ refl | false ↦ null-++ s t ]
 
-or_none : (a : Bool) → cond a true false ≡ a
-or_none true = refl
-or_none false = refl
-
-or_all : (a : Bool) → cond a true true ≡ true
-or_all true = refl
-or_all false = refl
-
 -- lots hold no null
 pub null_more : (s : Sheet Scalar) (ls : List Lot) → holds_null (s ++ lots ls) ≡ holds_null s
-null_more s ls = null-++ s (lots ls) ∙ ap (λ b. cond (holds_null s) true b) (null_lots ls) ∙ or_none (holds_null s)
+null_more s ls = grind (arith, null-++ s (lots ls), null_lots ls)
 
 pub null_left : (s t : Sheet Scalar) → holds_null s ≡ true → holds_null (s ++ t) ≡ true
-null_left s t h = null-++ s t ∙ ap (λ b. cond b true (holds_null t)) h
+null_left s t h = rw (null-++ s t, h)
 
 pub null_right : (s t : Sheet Scalar) → holds_null t ≡ true → holds_null (s ++ t) ≡ true
-null_right s t h = null-++ s t ∙ ap (λ b. cond (holds_null s) true b) h ∙ or_all (holds_null s)
+null_right s t h = grind (arith, null-++ s t)
 
 pub null_neither : (s t : Sheet Scalar) → holds_null s ≡ false → holds_null t ≡ false → holds_null (s ++ t) ≡ false
-null_neither s t h k = null-++ s t ∙ (λ i. cond (h i) true (k i))
+null_neither s t h k = rw (null-++ s t, h, k)
 
 -- ---- the order of items does not count
 pub reordered_sum : {X : Type 0} (f : X → ℕ) {s t : List X} → Reordered s t → sum_by f s ≡ sum_by f t
 reordered_sum f same = refl
-reordered_sum f (keep {s} {t} x r) = sum_by-cons f x s ∙ ap (λ n. f x + n) (reordered_sum f r) ∙ sym (sum_by-cons f x t)
-reordered_sum f (swap {s} x y) = omega (arith, sum_by-cons f x (y ∷ s), sum_by-cons f y s, sum_by-cons f y (x ∷ s), sum_by-cons f x s)
+reordered_sum f (keep {s} {t} x r) = simp (sum_by-cons, reordered_sum f r)
+reordered_sum f (swap {s} x y) = simp sum_by-cons (omega arith)
 reordered_sum f (then r q) = reordered_sum f r ∙ reordered_sum f q
 
 pub reordered_total : {X : Type 0} (f : X → ℤ) {s t : List X} → Reordered s t → exact_total signed64 f s ≡ exact_total signed64 f t
 reordered_total f same = refl
-reordered_total f (keep {s} {t} x r) = total_cons f x s ∙ ap (λ n. f x +ℤ n) (reordered_total f r) ∙ sym (total_cons f x t)
-reordered_total f (swap {s} x y) = omega (arith, ints, total_cons f x (y ∷ s), total_cons f y s, total_cons f y (x ∷ s), total_cons f x s)
+reordered_total f (keep {s} {t} x r) = simp (total_cons, reordered_total f r)
+reordered_total f (swap {s} x y) = simp total_cons (omega (arith, ints))
 reordered_total f (then r q) = reordered_total f r ∙ reordered_total f q
-
-either_first : (a b c : Bool) → cond a true (cond b true c) ≡ cond b true (cond a true c)
-either_first true true c = refl
-either_first true false c = refl
-either_first false b c = refl
 
 pub reordered_null : {s t : Sheet Scalar} → Reordered s t → holds_null s ≡ holds_null t
 reordered_null same = refl
-reordered_null (keep {s} {t} x r) = ap (λ b. cond (null_item x) true b) (reordered_null r)
-reordered_null (swap {s} x y) = either_first (null_item x) (null_item y) (holds_null s)
+reordered_null (keep {s} {t} x r) = rw (reordered_null r)
+reordered_null (swap {s} x y) = grind arith
 reordered_null (then r q) = reordered_null r ∙ reordered_null q

@@ -1,35 +1,34 @@
 -- Sum keeps every law of an aggregate, at all three families. Assumes nothing.
-use Rattle.std.specs.Prelude.{◌≡◌, ℕ, zero, suc, Bool, true, false, ◌&&◌, [], ◌∷◌, ◌++◌, Some, None, Ok, Option, refl}
-use Rattle.std.proofs.Common.{sym, ap, subst, ◌∙◌, inl, inr}
+use Rattle.std.specs.Prelude.{◌≡◌, ℕ, zero, suc, Bool, true, false, [], ◌∷◌, ◌++◌, Some, None, Ok, Option, refl, IsTrue, ◌↔◌}
+use Rattle.std.proofs.Common.{sym, ap, subst, inl, inr, eq-eqb, arith}
+use Rattle.std.proofs.Math.Bool.{beq}
+use Rattle.std.specs.Cmp.{booleans_Decides}
 use Rattle.std.specs.Option.{option_map}
-use Rattle.std.proofs.lemmas.Bool.{cond-true}
+use Rattle.std.proofs.lemmas.Bool.Decides.{Decides-like}
 use Rattle.dtype.specs.declared.ptype.DType.{DType}
 use Rattle.dtype.specs.declared.ptype.Family.{Family}
 use Rattle.dtype.specs.declared.ptype.Family.TheVariants as family
-use Rattle.dtype.specs.declared.ptype.PType.{PType}
-use Rattle.dtype.specs.declared.ptype.PType.TheVariants as p
 use Rattle.dtype.specs.declared.precision.Precision.{Precision}
 use Rattle.dtype.specs.declared.precision.Precision.TheVariants.{Exact, Inexact, Absent}
 use Rattle.dtype.specs.declared.scalar.Scalar.{Scalar}
 use Rattle.dtype.specs.declared.statistics.Statistics.{Statistics}
 use Rattle.dtype.specs.declared.value.Value.{Value}
-use Rattle.dtype.specs.declared.value.Value.TheVariants as v
-use Rattle.dtype.specs.Same.{same_dtype}
-use Rattle.dtype.specs.Types.{family_of, narrow, sum_ptype, dtype_of_sum, has_same_flag, has_same_kind, has_same_type}
+use Rattle.dtype.specs.Same.{same_dtype, type_same}
+use Rattle.dtype.specs.Types.{code_of, family_of, narrow, sum_ptype, dtype_of_sum, has_same_type}
 use Rattle.sums.specs.declared.state.SumState.{SumState}
-use Rattle.sums.specs.declared.state.SumState.TheVariants.{Unsigned, Signed, Float as Floating}
-use Rattle.sums.specs.States.{held, kept, nan_pattern, zero_of, value_of}
+use Rattle.sums.specs.declared.state.SumState.TheVariants.{Float as Floating}
+use Rattle.sums.specs.States.{nan_pattern, zero_of, value_of}
 use Rattle.columns.specs.Columns.{Meaning, Proper}
 use Rattle.columns.specs.States.{onto}
 use Rattle.column_sums.specs.ColumnSums.{column_sum, column_sum_by}
 use Rattle.column_sums.specs.Lots.{lots_by, column_lots}
 use Rattle.column_sums.specs.Records.{RightAmount, RightSum, Truthful}
-use Rattle.column_sums.proofs.FloatColumns.{zero_canonical, held_again}
+use Rattle.column_sums.proofs.FloatColumns.{zero_canonical}
 use Rattle.aggregates.specs.declared.sum_partial.NumericalAggregateOpts.{NumericalAggregateOpts}
 use Rattle.aggregates.specs.declared.sum_partial.SumPartial.{SumPartial}
 use Rattle.aggregates.specs.Sheets.{Sheet, handed, lots, Reordered}
-use Rattle.aggregates.specs.Model.{Lawful, Holds, Step, Accepted, Gains, ReadsAgain, column_step, step_by, through_cache, cached_step, gathered}
-use Rattle.aggregates.specs.SumModel.{sum_model, holding, OfFamily, Allowed, wrote_state, cached_sum_fits, scalar_of_state, scalar_of, accepts, refuses, without_nans, with_nans, by_nan_count, keeping_nans, sum_batch}
+use Rattle.aggregates.specs.Model.{Batch, Lawful, Holds, Step, Accepted, Gains, column_step, step_by, through_cache, cached_step, gathered}
+use Rattle.aggregates.specs.SumModel.{sum_model, summed, holding, OfFamily, Allowed, wrote_state, cached_sum_fits, scalar_of_state, scalar_of, without_nans, by_nan_count, keeping_nans, sum_batch}
 use Rattle.aggregates.specs.SumStates.{merged_states, taken_in, full}
 use Rattle.aggregates.specs.UnsignedSums.{unsigned_joins, unsigned_adds, unsigned_belongs, unsigned_hands, unsigned_stays, unsigned_returns, unsigned_reordered, unsigned_cached, unsigned_written}
 use Rattle.aggregates.specs.SignedSums.{signed_joins, signed_adds, signed_belongs, signed_hands, signed_stays, signed_returns, signed_reordered, signed_cached, signed_written}
@@ -89,54 +88,22 @@ written family.Unsigned small c st e f = unsigned_written small c.constant true 
 written family.Signed small c st e f = signed_written small c.constant true c st f
 written family.Float small c st e f = sym (ap (option_map value_of) e)
 
-own_type : (g : Family) → has_same_kind (sum_ptype g) (sum_ptype g) ≡ true
-own_type family.Unsigned = refl
-own_type family.Signed = refl
-own_type family.Float = refl
-
-state_type : (g : Family) (st : SumState) → OfFamily g (Some st) → (scalar_of_state st).dtype.ptype ≡ sum_ptype g
-state_type family.Unsigned (Unsigned a) h = refl
-state_type family.Unsigned (Signed a) h = absurd h
-state_type family.Unsigned (Floating a) h = absurd h
-state_type family.Signed (Unsigned a) h = absurd h
-state_type family.Signed (Signed a) h = refl
-state_type family.Signed (Floating a) h = absurd h
-state_type family.Float (Unsigned a) h = absurd h
-state_type family.Float (Signed a) h = absurd h
-state_type family.Float (Floating a) h = refl
+state_type : (g : Family) (st : SumState) → OfFamily g (Some st) → (scalar_of_state st).dtype ≡ record { ptype = sum_ptype g; nullable = true }
+state_type g st h = grind arith
 
 state_value : (st : SumState) → Some (value_of st) ≡ (scalar_of_state st).value
-state_value (Unsigned a) = refl
-state_value (Signed a) = refl
-state_value (Floating a) = refl
-
-state_flag : (st : SumState) → (scalar_of_state st).dtype.nullable ≡ true
-state_flag (Unsigned a) = refl
-state_flag (Signed a) = refl
-state_flag (Floating a) = refl
-
-own_dtype : (g : Family) → (has_same_kind (sum_ptype g) (sum_ptype g) && has_same_flag true true) ≡ true
-own_dtype family.Unsigned = refl
-own_dtype family.Signed = refl
-own_dtype family.Float = refl
+state_value st = grind arith
 
 takes_own : (d : DType) (q : Option SumState) → OfFamily (family_of d.ptype) q → has_same_type (scalar_of d q).dtype (dtype_of_sum d) ≡ true
-takes_own d None h = own_dtype (family_of d.ptype)
-takes_own d (Some st) h = (λ i. has_same_kind (state_type (family_of d.ptype) st h i) (sum_ptype (family_of d.ptype)) && has_same_flag (state_flag st i) true) ∙ own_dtype (family_of d.ptype)
+takes_own d None h = type_same (dtype_of_sum d) (dtype_of_sum d) refl
+takes_own d (Some st) h = type_same (scalar_of_state st).dtype (dtype_of_sum d) (state_type (family_of d.ptype) st h)
+
+taken_again : (g : Family) (st : SumState) → OfFamily g (Some st) → taken_in g (scalar_of_state st).value ≡ Some st
+taken_again g st h = grind (arith, unsigned_returns, signed_returns)
 
 reads_same : (g : Family) (d : DType) (q : Option SumState) → OfFamily g q → scalar_of d (taken_in g (scalar_of d q).value) ≡ scalar_of d q
 reads_same g d None h = refl
-reads_same family.Unsigned d (Some (Unsigned a)) h = ap (scalar_of d) (unsigned_returns a h)
-reads_same family.Unsigned d (Some (Signed a)) h = absurd h
-reads_same family.Unsigned d (Some (Floating a)) h = absurd h
-reads_same family.Signed d (Some (Unsigned a)) h = absurd h
-reads_same family.Signed d (Some (Signed a)) h = ap (scalar_of d) (signed_returns a h)
-reads_same family.Signed d (Some (Floating a)) h = absurd h
-reads_same family.Float d (Some (Unsigned a)) h = absurd h
-reads_same family.Float d (Some (Signed a)) h = absurd h
-reads_same family.Float d (Some (Floating a)) h =
-    let e : held (kept (held (kept (held a)))) ≡ held a = held_again (kept (held a)) ∙ held_again a in
-    λ i. record { dtype = record { ptype = p.F64; nullable = true }; value = Some (v.F64 (e i)); ok = refl }
+reads_same g d (Some st) h = rw (taken_again g st h)
 
 -- ---- the steps at a column of the aggregate's dtype, with a truthful record
 module _ (skip : Bool) (c : Meaning) (k : Statistics) (s : Sheet Scalar) (truth : Truthful c k) where
@@ -163,10 +130,10 @@ module _ (skip : Bool) (c : Meaning) (k : Statistics) (s : Sheet Scalar) (truth 
 
   -- a truthful cached sum is never refused
   fits_cached : (x : Scalar) → RightSum c x → cached_sum_fits c.dtype x ≡ true
-  fits_cached x r = ap (λ (t : PType). has_same_kind t (sum_ptype mine)) r.kind ∙ own_type mine
+  fits_cached x r = eq-eqb (code_of x.dtype.ptype) (code_of (sum_ptype mine)) (ap code_of r.kind)
 
   gathers : (q : Option SumPartial) (r : Option SumState) → Holding q → Allowed mine (lots (column_lots c)) r → Ends (gathered sum_model opts c.dtype q (holding r)).current
-  gathers None r e h = subst (λ (z : Sheet Scalar). Allowed mine (z ++ lots (column_lots c)) r) (sym e) h
+  gathers None r e h = rw e h
   gathers (Some q) r a h = joins mine s (lots (column_lots c)) q.current r a h
 
   -- the column summed by itself
@@ -176,16 +143,13 @@ module _ (skip : Bool) (c : Meaning) (k : Statistics) (s : Sheet Scalar) (truth 
   -- what is written tells the truth
   right : (st : SumState) → column_sum c true (zero_of mine) ≡ Some st → RightSum c (scalar_of_state st)
   right st e = record {
-    kind = state_type mine st (belongs mine ([] ++ lots (column_lots c)) (Some st) (subst (Allowed mine ([] ++ lots (column_lots c))) e alone));
-    amount = subst (RightAmount mine c) (state_value st) (written mine (narrow c.dtype.ptype) c st e e);
+    kind = λ i. (state_type mine st (belongs mine ([] ++ lots (column_lots c)) (Some st) (rw e at alone)) i).ptype;
+    amount = rw (state_value st) at (written mine (narrow c.dtype.ptype) c st e e);
   }
 
   writes_truth : (r : Option SumState) → column_sum c true (zero_of mine) ≡ r → Truthful c (wrote_state r k)
   writes_truth None e = truth
-  writes_truth (Some st) e = record { sum = λ x w. subst (RightSum c) (exact_is x w) (right st e); nans = truth.nans }
-    where
-      exact_is : (x : Scalar) → Exact (scalar_of_state st) ≡ Exact x → scalar_of_state st ≡ x
-      exact_is x w = cc
+  writes_truth (Some st) e = record { sum = λ x w. let same : scalar_of_state st ≡ x = cc in subst (RightSum c) same (right st e); nans = truth.nans }
 
   writes_gain : (r : Option SumState) → column_sum c true (zero_of mine) ≡ r → Gains c k (wrote_state r k)
   writes_gain None e = record { nans = refl; sum = inl refl }
@@ -198,43 +162,34 @@ module _ (skip : Bool) (c : Meaning) (k : Statistics) (s : Sheet Scalar) (truth 
 
   by_cached : (x : Scalar) (q : Option SumPartial) → RightSum c x → Holding q → Done (cached_step sum_model opts c.dtype k q (sum_model.from_sum opts c.dtype x))
   by_cached x q t h =
-      subst (λ o. Done (cached_step sum_model opts c.dtype k q o)) (sym (cond-true (cached_sum_fits c.dtype x) (Some (holding (taken_in mine x.value))) None (fits_cached x t)))
+      rw (fits_cached x t)
       (unchanged (gathered sum_model opts c.dtype q (holding (taken_in mine x.value))).current (gathers q (taken_in mine x.value) h (cached mine c x.value t.amount)))
 
   -- ---- without skip_nans
-  straightly : (st : SumState) → Allowed mine s (Some st) → Ends (column_sum c false st)
-  straightly st h = adds mine (narrow c.dtype.ptype) c.constant false c s (Some st) h
-
-  abbrev Straight : (b : Rattle.aggregates.specs.Model.Batch SumPartial) → Type 0
+  abbrev Straight : (b : Batch SumPartial) → Type 0
   Straight b = Done (record { answer = b.answer; stats = b.stats; partial = Some b.partial })
+
+  straightly : (st : SumState) → Allowed mine s (Some st) → Straight (summed false c k st)
+  straightly st h = unchanged (column_sum c false st) (adds mine (narrow c.dtype.ptype) c.constant false c s (Some st) h)
 
   without_nans_lem : (st : SumState) (x : Precision Scalar) → k.sum ≡ x → Allowed mine s (Some st) → Straight (without_nans c.dtype c k st x)
   without_nans_lem st (Exact x) e h =
       let t = truth.sum x e in
-      subst Straight (sym (cond-true (cached_sum_fits c.dtype x) (accepts k (merged_states (Some st) (taken_in mine x.value))) (refuses k st) (fits_cached x t)))
+      rw (fits_cached x t)
       (unchanged (merged_states (Some st) (taken_in mine x.value)) (joins mine s (lots (column_lots c)) (Some st) (taken_in mine x.value) h (cached mine c x.value t.amount)))
-  without_nans_lem st (Inexact x) e h = unchanged (column_sum c false st) (straightly st h)
-  without_nans_lem st Absent e h = unchanged (column_sum c false st) (straightly st h)
-
-  nan_ends : mine ≡ family.Float → Ends (Some (Floating nan_pattern))
-  nan_ends e = subst (λ (g : Family). Allowed g (s ++ lots (column_lots c)) (Some (Floating nan_pattern))) (sym e) nan_canonical
-
-  with_nans_lem : mine ≡ family.Float → (st : SumState) (n : ℕ) → Allowed mine s (Some st) → Straight (with_nans c.dtype c k st n)
-  with_nans_lem e st zero h = without_nans_lem st k.sum refl h
-  with_nans_lem e st (suc n) h = unchanged (Some (Floating nan_pattern)) (nan_ends e)
+  without_nans_lem st (Inexact x) e h = straightly st h
+  without_nans_lem st Absent e h = straightly st h
 
   by_nan_count_lem : mine ≡ family.Float → (st : SumState) (x : Precision ℕ) → Allowed mine s (Some st) → Straight (by_nan_count c.dtype c k st x)
-  by_nan_count_lem e st (Exact n) h = with_nans_lem e st n h
-  by_nan_count_lem e st (Inexact n) h = unchanged (column_sum c false st) (straightly st h)
-  by_nan_count_lem e st Absent h = unchanged (column_sum c false st) (straightly st h)
+  by_nan_count_lem e st (Exact zero) h = without_nans_lem st k.sum refl h
+  by_nan_count_lem e st (Exact (suc n)) h = unchanged (Some (Floating nan_pattern)) (rw e nan_canonical)
+  by_nan_count_lem e st (Inexact n) h = straightly st h
+  by_nan_count_lem e st Absent h = straightly st h
 
   keeping : (g : Family) → mine ≡ g → (st : SumState) → Allowed mine s (Some st) → Straight (keeping_nans g c.dtype c k st)
-  keeping family.Unsigned e st h = unchanged (column_sum c false st) (straightly st h)
-  keeping family.Signed e st h = unchanged (column_sum c false st) (straightly st h)
+  keeping family.Unsigned e st h = straightly st h
+  keeping family.Signed e st h = straightly st h
   keeping family.Float e st h = by_nan_count_lem e st k.nan_count h
-
-  null_stays : Allowed mine s None → Ends None
-  null_stays h = stays mine s (lots (column_lots c)) None refl h
 
 -- by the option
 skipping : (c : Meaning) (k : Statistics) (s : Sheet Scalar) (truth : Truthful c k) (q : Option SumPartial) (x : Precision Scalar) → k.sum ≡ x → Holding true c k s truth q
@@ -245,13 +200,12 @@ skipping c k s truth q Absent e h = by_itself true c k s truth q h
 
 keeps_state : (c : Meaning) (k : Statistics) (s : Sheet Scalar) (truth : Truthful c k) (q : Option SumState) → Allowed (family_of c.dtype.ptype) s q
     → Straight false c k s truth (sum_batch false c.dtype c k q)
-keeps_state c k s truth None h = unchanged false c k s truth None (null_stays false c k s truth h)
+keeps_state c k s truth None h = unchanged false c k s truth None (stays (family_of c.dtype.ptype) s (lots (column_lots c)) None refl h)
 keeps_state c k s truth (Some st) h = keeping false c k s truth (family_of c.dtype.ptype) refl st h
 
 keeps : (c : Meaning) (k : Statistics) (s : Sheet Scalar) (truth : Truthful c k) (q : Option SumPartial) → Holding false c k s truth q
     → Done false c k s truth (step_by sum_model (opts false c k s truth) c.dtype false c k q)
-keeps c k s truth None e =
-    keeps_state c k s truth (Some (zero_of (family_of c.dtype.ptype))) (subst (λ (z : Sheet Scalar). Allowed (family_of c.dtype.ptype) z (Some (zero_of (family_of c.dtype.ptype)))) (sym e) (starts (family_of c.dtype.ptype)))
+keeps c k s truth None e = keeps_state c k s truth (Some (zero_of (family_of c.dtype.ptype))) (rw e (starts (family_of c.dtype.ptype)))
 keeps c k s truth (Some q) h = keeps_state c k s truth q.current h
 
 by_option : (skip : Bool) (c : Meaning) (k : Statistics) (s : Sheet Scalar) (truth : Truthful c k) (q : Option SumPartial) → Holding skip c k s truth q
@@ -263,9 +217,14 @@ adds_lots : (o : NumericalAggregateOpts) (d : DType) (c : Meaning) (k : Statisti
 adds_lots o d c k s q e good truth =
     subst (λ (d : DType). Holds sum_model o d s q → Accepted sum_model o d c k s (column_step sum_model o d c k q)) e (by_option o.skip_nans c k s truth q)
 
+-- `==` of options says whether they are equal
+pub opts_told_apart : (a b : NumericalAggregateOpts) → IsTrue (beq a.skip_nans b.skip_nans) ↔ (a ≡ b)
+opts_told_apart a b =
+    Decides-like _ (λ e i. record { skip_nans = e i }) (λ e i. (e i).skip_nans) (booleans_Decides a.skip_nans b.skip_nans)
+
 pub sum_lawful : Lawful sum_model
 sum_lawful = record {
-  takes_its_dtype = λ o d x e. ap (λ (t : DType). has_same_type t (dtype_of_sum d)) e ∙ own_dtype (family_of d.ptype);
+  takes_its_dtype = λ o d x e. type_same x.dtype (dtype_of_sum d) e;
   takes_no_other = λ o d x h. same_dtype x.dtype (dtype_of_sum d) h;
   allowed_belongs = λ o d s q. belongs (family_of d.ptype) s q.current;
   empty_allowed = λ o d. starts (family_of d.ptype);

@@ -1,5 +1,5 @@
 -- Sum: what each operation answers, and which partials are allowed for a sheet. Assumes nothing.
-use Rattle.std.specs.Prelude.{◌≡◌, ℕ, zero, suc, ◌^◌, ◌<◌, ◌≤◌, Bool, true, false, cond, ◌⊎◌, is_some, Some, None, Ok, Err, Option, refl}
+use Rattle.std.specs.Prelude.{◌≡◌, ℕ, zero, suc, ◌^◌, ◌<◌, ◌≤◌, Bool, true, false, cond, ◌⊎◌, is_some, Some, None, Ok, Err, Option, Result, refl}
 use Rattle.std.specs.Option.{option_map}
 use Rattle.dtype.specs.declared.ptype.DType.{DType}
 use Rattle.dtype.specs.declared.ptype.Family.{Family}
@@ -7,6 +7,7 @@ use Rattle.dtype.specs.declared.ptype.Family.TheVariants as family
 use Rattle.dtype.specs.declared.ptype.PType.TheVariants as p
 use Rattle.dtype.specs.declared.precision.Precision.{Precision}
 use Rattle.dtype.specs.declared.precision.Precision.TheVariants.{Exact, Inexact, Absent}
+use Rattle.dtype.specs.declared.refusal.Refusal.{Refusal}
 use Rattle.dtype.specs.declared.refusal.Refusal.TheVariants.{CachedSumType}
 use Rattle.dtype.specs.declared.scalar.Scalar.{Scalar}
 use Rattle.dtype.specs.declared.statistics.Statistics.{Statistics}
@@ -64,6 +65,11 @@ accepts k q = record { answer = Ok tt; stats = k; partial = holding q }
 
 abbrev pub refuses : Statistics → SumState → Batch SumPartial
 refuses k st = record { answer = Err CachedSumType; stats = k; partial = holding (Some st) }
+
+-- what an answer leaves of a state: the partial it gives, and the state where it is a refusal
+abbrev pub ends : Statistics → SumState → Result SumPartial Refusal → Batch SumPartial
+ends k st (Ok p) = accepts k p.current
+ends k st (Err e) = record { answer = Err e; stats = k; partial = holding (Some st) }
 
 -- the column is summed
 abbrev pub summed : Bool → Meaning → Statistics → SumState → Batch SumPartial

@@ -1,12 +1,13 @@
-ghost use Rattle.std.specs.Prelude.{◌≡◌, Decides};
+ghost use Rattle.std.specs.Prelude.{◌≡◌, ◌↔◌, IsTrue};
 ghost use Rattle.aggregates.specs.Model.{Model, Lawful};
 
 use columns::Column;
 use dtype::{DType, Refusal, Scalar, Statistics};
 
 // An aggregate. `model` says what each operation answers, and `lawful` what holds of these answers.
+// The options and the dtype go side by side, as the source names them; a struct of both would be taken apart in each body.
 pub trait AggregateFn {
-    type Options: Copy;
+    type Options: Copy + PartialEq;
 
     type Partial: Drop;
 
@@ -15,9 +16,6 @@ pub trait AggregateFn {
     type Answer: Drop;
 
     ghost model: { Model Self.Options Self.Partial Self.PartialScalar Self.Answer };
-
-    fn same_options(first: Self::Options, second: Self::Options) -> bool
-        ensures { Decides result (first ≡ second) };
 
     fn empty_partial(options: Self::Options, dtype: DType) -> Self::Partial
         ensures { result ≡ model.empty options dtype };
@@ -30,7 +28,8 @@ pub trait AggregateFn {
     ) -> Self::Partial
         ensures { result ≡ model.merged options dtype first second };
 
-    // Whether a scalar has the partial's dtype.
+    // Whether a scalar has the partial's dtype. It stands apart from `partial_from_scalar`, which as in the source gives a
+    // partial of every scalar.
     fn takes_scalar(options: Self::Options, dtype: DType, scalar: Self::PartialScalar) -> bool
         ensures { result ≡ model.takes options dtype scalar };
 
@@ -41,7 +40,9 @@ pub trait AggregateFn {
     ) -> Self::Partial
         ensures { result ≡ model.taken options dtype scalar };
 
-    // Whether the column's own sum is cached in its statistics record.
+    // Whether the column's own sum is cached in its statistics record. It stands apart from `partial_from_sum`, as in the
+    // source, and the model has a definition for each. These two and `write_sum` have no default body, which would have to
+    // prove its clause for every model.
     fn caches_sum(options: Self::Options, dtype: DType) -> bool
         ensures { result ≡ model.caches options dtype };
 
@@ -49,37 +50,30 @@ pub trait AggregateFn {
     fn partial_from_sum(options: Self::Options, dtype: DType, sum: Scalar) -> Option<Self::Partial>
         ensures { result ≡ model.from_sum options dtype sum };
 
-    ghost lawful: { Lawful model };
-}
-
-// The questions, which change nothing.
-pub trait AggregateQuestions: AggregateFn {
+    // The questions, which change nothing.
     fn partial_scalar(
         options: Self::Options,
         dtype: DType,
         partial: &Self::Partial,
     ) -> Self::PartialScalar
-        ensures { result ≡ Self.AggregateFn.model.reads options dtype partial.now };
+        ensures { result ≡ model.reads options dtype partial.now };
 
     fn final_scalar(options: Self::Options, dtype: DType, partial: &Self::Partial) -> Self::Answer
-        ensures { result ≡ Self.AggregateFn.model.final options dtype partial.now };
+        ensures { result ≡ model.final options dtype partial.now };
 
     fn is_saturated(options: Self::Options, dtype: DType, partial: &Self::Partial) -> bool
-        ensures { result ≡ Self.AggregateFn.model.saturated options dtype partial.now };
+        ensures { result ≡ model.saturated options dtype partial.now };
 
-    // The sum of a partial written to a record, for an aggregate that caches sums.
+    // Changes the record: the sum of a partial is written to it, for an aggregate that caches sums.
     fn write_sum(
         options: Self::Options,
         dtype: DType,
         partial: &Self::Partial,
         stats: &mut Statistics,
     )
-        ensures { stats.new ≡ Self.AggregateFn.model.wrote options dtype partial.now stats.old };
-}
+        ensures { stats.new ≡ model.wrote options dtype partial.now stats.old };
 
-// An aggregate that takes columns of any kind.
-pub trait AggregateColumns: AggregateQuestions {
-    // The column added to the partial.
+    // The column added to the partial. The column is read and the record written, so they are not one struct.
     fn accumulate<C: Column>(
         options: Self::Options,
         dtype: DType,
@@ -87,5 +81,10 @@ pub trait AggregateColumns: AggregateQuestions {
         stats: &mut Statistics,
         partial: &mut Self::Partial,
     ) -> Result<(), Refusal>
-        ensures { Self.AggregateFn.model.batch options dtype (C.Column.meaning column.now) stats.old partial.old ≡ record { answer = result; stats = stats.new; partial = partial.new } };
+        ensures { model.batch options dtype (C.Column.meaning column.now) stats.old partial.old ≡ record { answer = result; stats = stats.new; partial = partial.new } };
+
+    ghost lawful: { Lawful model };
+
+    // `==` of options says whether they are equal.
+    ghost options_are_told_apart: { (first second : Self.Options) → IsTrue (Self.Options.eq first second) ↔ (first ≡ second) };
 }

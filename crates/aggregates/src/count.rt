@@ -1,10 +1,10 @@
-ghost use Rattle.std.specs.Prelude.{◌≡◌};
+ghost use Rattle.std.specs.Prelude.{◌≡◌, refl};
 ghost use Rattle.sums.specs.Sums.{unsigned64, step};
 ghost use Rattle.column_sums.specs.Counts.{column_count};
 ghost use Rattle.aggregates.specs.CountModel.{count_model, scalar_of_count, merged_counts, taken_count};
 ghost use Rattle.aggregates.specs.CountLawful.{count_lawful};
 
-use crate::aggregate::{AggregateColumns, AggregateFn, AggregateQuestions};
+use crate::aggregate::AggregateFn;
 use column_sums::count_column;
 use columns::Column;
 use dtype::{DType, PType, Refusal, Scalar, Statistics, Value};
@@ -14,8 +14,8 @@ use sums::checked_add_u64;
 #[derive(Clone, Copy)]
 pub struct Count;
 
-// What was counted, or none where the count is null.
-#[derive(Clone, Copy)]
+// What was counted, or none where the count is null. A struct of one field, as the sum's partial is.
+#[derive(Clone, Copy, PartialEq, Eq, Debug)]
 pub struct CountPartial {
     pub current: Option<u64>,
 }
@@ -24,36 +24,31 @@ pub struct CountPartial {
 fn count_scalar(current: Option<u64>) -> Scalar
     ensures { result ≡ scalar_of_count current }
 {
-    match current {
-        Some(count) => Scalar::primitive(Value::U64(count), true),
-        None => Scalar::null(PType::U64),
-    }
+    current.map_or_else(
+        || Scalar::null(PType::U64),
+        |count| Scalar::primitive(Value::U64(count), true),
+    )
 }
 
 // Null with anything is null.
 fn merge_counts(first: Option<u64>, second: Option<u64>) -> Option<u64>
     ensures { result ≡ merged_counts first second }
 {
-    match (first, second) {
-        (Some(a), Some(b)) => checked_add_u64(a, b),
-        _ => None,
-    }
+    checked_add_u64(first?, second?)
 }
 
 // A value, or null, as a count.
 fn count_from_value(value: Option<Value>) -> Option<u64>
     ensures { result ≡ taken_count value }
 {
-    let value = value?;
-    Some(value.to_u64())
+    value.map(Value::to_u64)
 }
 
 // The column's count added. Null takes nothing and stays null.
 fn add_count<C: Column>(column: &C, current: Option<u64>) -> Option<u64>
     ensures { result ≡ step unsigned64 current (column_count (C.Column.meaning column.now)) }
 {
-    let count = current?;
-    checked_add_u64(count, count_column(column))
+    checked_add_u64(current?, count_column(column))
 }
 
 impl AggregateFn for Count {
@@ -69,25 +64,23 @@ impl AggregateFn for Count {
 
     ghost lawful = { count_lawful };
 
-    fn same_options(_first: (), _second: ()) -> bool {
-        true
-    }
+    ghost options_are_told_apart = { λ first second. (λ e. refl, λ e. refl) };
 
-    fn empty_partial(_options: (), _dtype: DType) -> CountPartial {
+    fn empty_partial(_options: Self::Options, _dtype: DType) -> Self::Partial {
         CountPartial { current: Some(0) }
     }
 
     fn merge_partials(
-        _options: (),
+        _options: Self::Options,
         _dtype: DType,
-        first: CountPartial,
-        second: CountPartial,
-    ) -> CountPartial {
+        first: Self::Partial,
+        second: Self::Partial,
+    ) -> Self::Partial {
         let current = merge_counts(first.current, second.current);
         CountPartial { current }
     }
 
-    fn takes_scalar(_options: (), _dtype: DType, scalar: Scalar) -> bool {
+    fn takes_scalar(_options: Self::Options, _dtype: DType, scalar: Self::PartialScalar) -> bool {
         let counts = DType {
             ptype: PType::U64,
             nullable: true,
@@ -95,43 +88,61 @@ impl AggregateFn for Count {
         scalar.dtype() == counts
     }
 
-    fn partial_from_scalar(_options: (), _dtype: DType, scalar: Scalar) -> CountPartial {
+    fn partial_from_scalar(
+        _options: Self::Options,
+        _dtype: DType,
+        scalar: Self::PartialScalar,
+    ) -> Self::Partial {
         let current = count_from_value(scalar.value());
         CountPartial { current }
     }
 
-    fn caches_sum(_options: (), _dtype: DType) -> bool {
+    fn caches_sum(_options: Self::Options, _dtype: DType) -> bool {
         false
     }
 
-    fn partial_from_sum(_options: (), _dtype: DType, _sum: Scalar) -> Option<CountPartial> {
+    fn partial_from_sum(
+        _options: Self::Options,
+        _dtype: DType,
+        _sum: Scalar,
+    ) -> Option<Self::Partial> {
         None
     }
-}
 
-impl AggregateQuestions for Count {
-    fn partial_scalar(_options: (), _dtype: DType, partial: &CountPartial) -> Scalar {
+    // The same as the final answer: both are questions of the source, and one line each.
+    fn partial_scalar(
+        _options: Self::Options,
+        _dtype: DType,
+        partial: &Self::Partial,
+    ) -> Self::PartialScalar {
         count_scalar(partial.current)
     }
 
-    fn final_scalar(_options: (), _dtype: DType, partial: &CountPartial) -> Scalar {
+    fn final_scalar(
+        _options: Self::Options,
+        _dtype: DType,
+        partial: &Self::Partial,
+    ) -> Self::Answer {
         count_scalar(partial.current)
     }
 
-    fn is_saturated(_options: (), _dtype: DType, partial: &CountPartial) -> bool {
+    fn is_saturated(_options: Self::Options, _dtype: DType, partial: &Self::Partial) -> bool {
         partial.current.is_none()
     }
 
-    fn write_sum(_options: (), _dtype: DType, _partial: &CountPartial, _stats: &mut Statistics) {}
-}
+    fn write_sum(
+        _options: Self::Options,
+        _dtype: DType,
+        _partial: &Self::Partial,
+        _stats: &mut Statistics,
+    ) {}
 
-impl AggregateColumns for Count {
     fn accumulate<C: Column>(
-        _options: (),
+        _options: Self::Options,
         _dtype: DType,
         column: &C,
         _stats: &mut Statistics,
-        partial: &mut CountPartial,
+        partial: &mut Self::Partial,
     ) -> Result<(), Refusal> {
         partial.current = add_count(column, partial.current);
         Ok(())

@@ -1,5 +1,4 @@
-ghost use Rattle.std.specs.Prelude.{◌≡◌};
-ghost use Rattle.columns.specs.States.{onto};
+ghost use Rattle.std.specs.Prelude.{◌≡◌, None};
 ghost use Rattle.column_sums.specs.ColumnSums.{column_sum};
 ghost use Rattle.aggregates.specs.Guards.{put_back};
 ghost use Rattle.aggregates.specs.SumModel.{holding};
@@ -9,53 +8,53 @@ use column_sums::add_column;
 use columns::Column;
 use sums::SumState;
 
-// A partial and the state that was taken out of it.
+// A partial and the state that was taken out of it, none once an overflow is told.
 #[derive(Clone, Copy)]
-pub struct Slot {
+struct Slot {
     partial: SumPartial,
-    taken: SumState,
+    taken: Option<SumState>,
 }
 
 // Puts the state back when summing ends, unless told of an overflow.
 struct Guard<'a> {
     slot: &'a mut Slot,
-    overflow: bool,
+}
+
+impl Guard<'_> {
+    fn tell_overflow(&mut self)
+        ensures same_reference { self.new.slot.ghost_name ≡ self.old.slot.ghost_name }
+        ensures none_taken { self.new.slot.now ≡ record { partial = self.old.slot.now.partial; taken = None } }
+    {
+        self.slot.taken = None;
+    }
 }
 
 impl Drop for Guard<'_> {
     fn drop(self)
-        ensures { self.exit.0.now ≡ put_back self.entry.overflow self.entry.slot.now }
+        ensures { self.exit.0.now ≡ put_back self.entry.slot.now.taken self.entry.slot.now }
     {
-        if !self.overflow {
-            self.slot.partial.current = Some(self.slot.taken);
+        let Guard { slot } = self;
+        if let Some(state) = slot.taken {
+            slot.partial.current = Some(state);
         }
-        let Guard {
-            slot: _,
-            overflow: _,
-        } = self;
     }
 }
 
-// The column added to a partial. A null partial takes nothing and stays null, and an overflow leaves null.
-pub(crate) fn sum_column<C: Column>(column: &C, skip_nans: bool, partial: &mut SumPartial)
-    ensures { partial.new ≡ holding (onto (column_sum (C.Column.meaning column.now) skip_nans) partial.old.current) }
+// The column added to a state. An overflow leaves null.
+pub(crate) fn sum_column<C: Column>(column: &C, skip_nans: bool, state: SumState) -> SumPartial
+    ensures { result ≡ holding (column_sum (C.Column.meaning column.now) skip_nans state) }
 {
-    let Some(state) = partial.current else {
-        return;
-    };
     let mut slot = Slot {
         partial: SumPartial { current: None },
-        taken: state,
+        taken: Some(state),
     };
     {
-        let mut guard = Guard {
-            slot: &mut slot,
-            overflow: false,
-        };
-        match add_column(column, skip_nans, guard.slot.taken) {
-            Some(sum) => guard.slot.taken = sum,
-            None => guard.overflow = true,
+        let mut guard = Guard { slot: &mut slot };
+        // Not one assignment of the answer: it is a rule that the guard is told of an overflow.
+        match add_column(column, skip_nans, state) {
+            Some(sum) => guard.slot.taken = Some(sum),
+            None => guard.tell_overflow(),
         }
     }
-    *partial = slot.partial;
+    slot.partial
 }

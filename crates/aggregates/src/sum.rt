@@ -1,9 +1,9 @@
 ghost use Rattle.std.specs.Prelude.{◌≡◌, Some};
 ghost use Rattle.dtype.specs.Types.{family_of};
-ghost use Rattle.aggregates.specs.SumModel.{sum_model, summed, without_nans, with_nans, by_nan_count, keeping_nans, state_batch, sum_batch};
-ghost use Rattle.aggregates.specs.SumLawful.{sum_lawful};
+ghost use Rattle.aggregates.specs.SumModel.{sum_model, from_cached, ends, without_nans, by_nan_count};
+ghost use Rattle.aggregates.specs.SumLawful.{sum_lawful, opts_told_apart};
 
-use crate::aggregate::{AggregateColumns, AggregateFn, AggregateQuestions};
+use crate::aggregate::AggregateFn;
 use crate::guard::sum_column;
 use crate::sum_partial::{NumericalAggregateOpts, SumPartial};
 use crate::sum_states::{
@@ -11,80 +11,54 @@ use crate::sum_states::{
 };
 use columns::Column;
 use dtype::{DType, Family, Precision, Refusal, Scalar, Statistics};
-use sums::SumState;
+use sums::{SumState, float_to_bits};
 
 // The sum of all valid entries, which is null once it leaves 64 bits or a null is handed in.
 #[derive(Clone, Copy)]
 pub struct Sum;
 
+// The partial of a cached sum, and none where its number type is another.
+fn partial_from_cached(dtype: DType, sum: Scalar) -> Option<SumPartial>
+    ensures { result ≡ from_cached dtype sum }
+{
+    cached_fits(dtype, sum).then(|| SumPartial {
+        current: state_from_value(dtype.ptype.family(), sum.value()),
+    })
+}
+
 // A column known to have no NaN: an exact cached sum is added in place of it.
 fn accumulate_without_nans<C: Column>(
     dtype: DType,
     column: &C,
-    stats: &mut Statistics,
-    partial: &mut SumPartial,
+    stats: &Statistics,
     state: SumState,
-) -> Result<(), Refusal>
-    requires { partial.old.current ≡ Some state }
-    ensures { without_nans dtype (C.Column.meaning column.now) stats.old state stats.old.sum ≡ record { answer = result; stats = stats.new; partial = partial.new } }
+) -> Result<SumPartial, Refusal>
+    ensures { without_nans dtype (C.Column.meaning column.now) stats.now state stats.now.sum ≡ ends stats.now state result }
 {
-    let Precision::Exact(cached) = stats.sum() else {
-        sum_column(column, false, partial);
-        return Ok(());
+    let Precision::Exact(sum) = stats.sum() else {
+        return Ok(sum_column(column, false, state));
     };
-    if !cached_fits(dtype, cached) {
-        return Err(Refusal::CachedSumType);
-    }
-    let sum = state_from_value(dtype.ptype.family(), cached.value());
-    partial.current = merge_states(Some(state), sum);
-    Ok(())
+    let cached = partial_from_cached(dtype, sum).ok_or(Refusal::CachedSumType)?;
+    let current = merge_states(Some(state), cached.current);
+    Ok(SumPartial { current })
 }
 
 // Floats with NaNs kept: an exact number of NaN entries above 0 makes the state NaN.
 fn accumulate_floats<C: Column>(
     dtype: DType,
     column: &C,
-    stats: &mut Statistics,
-    partial: &mut SumPartial,
+    stats: &Statistics,
     state: SumState,
-) -> Result<(), Refusal>
-    requires { partial.old.current ≡ Some state }
-    ensures { by_nan_count dtype (C.Column.meaning column.now) stats.old state stats.old.nan_count ≡ record { answer = result; stats = stats.new; partial = partial.new } }
+) -> Result<SumPartial, Refusal>
+    ensures { by_nan_count dtype (C.Column.meaning column.now) stats.now state stats.now.nan_count ≡ ends stats.now state result }
 {
     match stats.nan_count() {
-        Precision::Exact(0) => accumulate_without_nans(dtype, column, stats, partial, state),
+        Precision::Exact(0) => accumulate_without_nans(dtype, column, stats, state),
         Precision::Exact(_) => {
-            partial.current = Some(SumState::Float(0x7ff8_0000_0000_0000));
-            Ok(())
+            let current = Some(SumState::Float(float_to_bits(f64::NAN)));
+            Ok(SumPartial { current })
         }
-        _ => {
-            sum_column(column, false, partial);
-            Ok(())
-        }
-    }
-}
-
-// A column added to the partial. A null one takes nothing and stays null.
-fn accumulate_sum<C: Column>(
-    options: NumericalAggregateOpts,
-    dtype: DType,
-    column: &C,
-    stats: &mut Statistics,
-    partial: &mut SumPartial,
-) -> Result<(), Refusal>
-    ensures { sum_batch options.skip_nans dtype (C.Column.meaning column.now) stats.old partial.old.current ≡ record { answer = result; stats = stats.new; partial = partial.new } }
-{
-    let Some(state) = partial.current else {
-        return Ok(());
-    };
-    match dtype.ptype.family() {
-        Family::Float if !options.skip_nans => accumulate_floats(
-            dtype, column, stats, partial, state,
-        ),
-        _ => {
-            sum_column(column, options.skip_nans, partial);
-            Ok(())
-        }
+        _ => Ok(sum_column(column, false, state)),
     }
 }
 
@@ -101,94 +75,92 @@ impl AggregateFn for Sum {
 
     ghost lawful = { sum_lawful };
 
-    fn same_options(first: NumericalAggregateOpts, second: NumericalAggregateOpts) -> bool {
-        first == second
-    }
+    ghost options_are_told_apart = { opts_told_apart };
 
-    fn empty_partial(_options: NumericalAggregateOpts, dtype: DType) -> SumPartial {
+    fn empty_partial(_options: Self::Options, dtype: DType) -> Self::Partial {
         let current = Some(SumState::zero(dtype.ptype.family()));
         SumPartial { current }
     }
 
     fn merge_partials(
-        _options: NumericalAggregateOpts,
+        _options: Self::Options,
         _dtype: DType,
-        first: SumPartial,
-        second: SumPartial,
-    ) -> SumPartial {
+        first: Self::Partial,
+        second: Self::Partial,
+    ) -> Self::Partial {
         let current = merge_states(first.current, second.current);
         SumPartial { current }
     }
 
-    fn takes_scalar(_options: NumericalAggregateOpts, dtype: DType, scalar: Scalar) -> bool {
+    fn takes_scalar(_options: Self::Options, dtype: DType, scalar: Self::PartialScalar) -> bool {
         scalar.dtype() == dtype.sum_dtype()
     }
 
     fn partial_from_scalar(
-        _options: NumericalAggregateOpts,
+        _options: Self::Options,
         dtype: DType,
-        scalar: Scalar,
-    ) -> SumPartial {
+        scalar: Self::PartialScalar,
+    ) -> Self::Partial {
         let current = state_from_value(dtype.ptype.family(), scalar.value());
         SumPartial { current }
     }
 
-    fn caches_sum(options: NumericalAggregateOpts, _dtype: DType) -> bool {
+    fn caches_sum(options: Self::Options, _dtype: DType) -> bool {
         options.skip_nans
     }
 
     fn partial_from_sum(
-        _options: NumericalAggregateOpts,
+        _options: Self::Options,
         dtype: DType,
         sum: Scalar,
-    ) -> Option<SumPartial> {
-        if !cached_fits(dtype, sum) {
-            return None;
-        }
-        let current = state_from_value(dtype.ptype.family(), sum.value());
-        Some(SumPartial { current })
+    ) -> Option<Self::Partial> {
+        partial_from_cached(dtype, sum)
     }
-}
 
-impl AggregateQuestions for Sum {
+    // The same as the final answer: both are questions of the source, and one line each.
     fn partial_scalar(
-        _options: NumericalAggregateOpts,
+        _options: Self::Options,
         dtype: DType,
-        partial: &SumPartial,
-    ) -> Scalar {
+        partial: &Self::Partial,
+    ) -> Self::PartialScalar {
         sum_scalar(dtype, partial.current)
     }
 
     fn final_scalar(
-        _options: NumericalAggregateOpts,
+        _options: Self::Options,
         dtype: DType,
-        partial: &SumPartial,
-    ) -> Scalar {
+        partial: &Self::Partial,
+    ) -> Self::Answer {
         sum_scalar(dtype, partial.current)
     }
 
-    fn is_saturated(_options: NumericalAggregateOpts, _dtype: DType, partial: &SumPartial) -> bool {
+    fn is_saturated(_options: Self::Options, _dtype: DType, partial: &Self::Partial) -> bool {
         is_full(partial.current)
     }
 
     fn write_sum(
-        _options: NumericalAggregateOpts,
+        _options: Self::Options,
         _dtype: DType,
-        partial: &SumPartial,
+        partial: &Self::Partial,
         stats: &mut Statistics,
     ) {
         write_state(partial.current, stats);
     }
-}
 
-impl AggregateColumns for Sum {
     fn accumulate<C: Column>(
-        options: NumericalAggregateOpts,
+        options: Self::Options,
         dtype: DType,
         column: &C,
         stats: &mut Statistics,
-        partial: &mut SumPartial,
+        partial: &mut Self::Partial,
     ) -> Result<(), Refusal> {
-        accumulate_sum(options, dtype, column, stats, partial)
+        let Some(state) = partial.current else {
+            return Ok(());
+        };
+        *partial = match dtype.ptype.family() {
+            Family::Float if !options.skip_nans => accumulate_floats(dtype, column, stats, state)?,
+            _ => sum_column(column, options.skip_nans, state),
+        };
+        Ok(())
     }
 }

@@ -2,14 +2,14 @@
 use Rattle.std.proofs.Common.{◌≡◌, ℕ, zero, suc, ◌+◌, ◌-◌, ◌<◌, ◌≤◌, Bool, true, false, ◌&&◌, eqb, List, [], ◌∷◌, length, is_some as option_is_some, Some, None, sum_by, Option, sym, refl, ap, ◌∙◌, ⊎_elim, arith}
 use Rattle.std.proofs.lemmas.List.{length-append}
 use Rattle.std.proofs.lemmas.List.Sums.{sum_by-cons}
-use Rattle.std.proofs.lemmas.Bool.{cases_lt, cond_both, eqb-true, false≢true}
+use Rattle.std.proofs.lemmas.Bool.{cases_lt, cond_both, eqb-true}
 use Rattle.dtype.specs.declared.value.Value.{Value}
 use Rattle.columns.specs.declared.bitmap.Stretch.{Stretch}
-use Rattle.columns.specs.Columns.{Meaning, Proper, valid, some, lead, stretches_from, run_from}
+use Rattle.columns.specs.Columns.{Meaning, Proper, valid, some, stretches_from, run_from}
 use Rattle.columns.specs.Stretches.{NoneFrom, Found}
-use Rattle.column_sums.specs.Lots.{Lot, values_from, whole_lot, lots_by}
+use Rattle.column_sums.specs.Lots.{Lot, single, values_from, whole_lot, lots_by}
 use Rattle.column_sums.specs.Counts.{column_count}
-use Rattle.column_sums.proofs.Entries.{flat, flat_stretches, single_sum}
+use Rattle.column_sums.proofs.Entries.{flat, flat_stretches}
 use Rattle.column_sums.proofs.Walks.{Fresh, is_some, first_null, no_next, passed, stops, run_first, whole_start, whole_end}
 
 -- the entries of a constant, counted
@@ -27,19 +27,19 @@ count_from c from = count_from_by c.constant c from
 
 -- ---- a constant
 all_count : (o : Option Value) (n : ℕ) → option_is_some o ≡ true → whole_count o n ≡ n
-all_count None n h = absurd (false≢true h)
+all_count None n h = absurd cc
 all_count (Some x) n h =
     cond_both (eqb n 0) [] (record { value = x; times = n } ∷ []) (λ ls. sum_by (λ (l : Lot). l.times) ls ≡ n) (λ e. sym (eqb-true n 0 e)) (λ e. omega arith)
 
 none_count : (o : Option Value) (n : ℕ) → (0 < n → option_is_some o ≡ false) → whole_count o n ≡ 0
 none_count None n h = refl
 none_count (Some x) zero h = refl
-none_count (Some x) (suc n) h = absurd (false≢true (sym (h (omega arith))))
+none_count (Some x) (suc n) h = (let e = h (omega arith) in absurd cc)
 
 -- ---- entries one by one
-ones_length : (xs : List Value) → sum_by (λ (x : Value). 1) xs ≡ length xs
-ones_length [] = refl
-ones_length (x ∷ xs) = sum_by-cons (λ (y : Value). 1) x xs ∙ (let rest = ones_length xs in omega arith)
+single_length : (xs : List Value) → sum_by (λ (l : Lot). l.times) (single xs) ≡ length xs
+single_length [] = refl
+single_length (x ∷ xs) = omega (arith, sum_by-cons (λ (l : Lot). l.times) (record { value = x; times = 1 }) (single xs), single_length xs)
 
 module _ (entry : ℕ → Option Value) where
   -- a run that ends at e is as long as it says
@@ -51,8 +51,9 @@ module _ (entry : ℕ → Option Value) where
       ap length (stops entry s n ((λ j. some (b j) && option_is_some (entry (a j))) ∙ end))
   run_length (suc l) s e m zero ee ne all end = absurd (omega arith)
   run_length (suc l) s e m (suc n) ee ne all end =
-      ap (λ o. length (lead o (run_from entry (suc s) n))) (is_some (entry s) (all s (omega arith) (omega arith)))
-      ∙ ap suc (run_length l (suc s) e m n (omega arith) (omega arith) (λ k a b. all k (omega arith) b) end)
+      let first = is_some (entry s) (all s (omega arith) (omega arith)) in
+      let rest = run_length l (suc s) e m n (omega arith) (omega arith) (λ k a b. all k (omega arith) b) end in
+      cc
 
   -- the valid entries are counted over the stretches
   flat_length : (i n : ℕ) → length (values_from entry i n) ≡ length (flat (stretches_from entry i n))
@@ -85,10 +86,7 @@ module _ (c : Meaning) (good : Proper c) where
       let run = run_from c.entry s.start (c.len - s.start) in
       let rest = stretches_from c.entry s.end (c.len - s.end) in
       let long : length run ≡ s.end - s.start = run_length c.entry (s.end - s.start) s.start s.end (c.len - s.end) (c.len - s.start) (omega arith) (omega arith) r.filled end in
-      flat_length c.entry from (c.len - from)
-      ∙ ap (λ ss. length (flat ss)) (over ∙ one)
-      ∙ length-append run (flat rest)
-      ∙ (let back = sym (flat_length c.entry s.end (c.len - s.end)) in λ i. long i + back i)
+      rw (flat_length c.entry from (c.len - from), over, one, length-append run (flat rest), long, ← flat_length c.entry s.end (c.len - s.end)) refl
 
   -- one stretch found and counted
   pub count_next : (from : ℕ) (s : Stretch) → (from < c.len → Fresh (valid c) from) → Found (valid c) c.len from s
@@ -117,7 +115,4 @@ count_start c = go c.constant
     go true = refl
     go false =
         let z : c.len - 0 ≡ c.len = omega arith in
-        let xs = values_from c.entry 0 c.len in
-        ap (λ n. length (values_from c.entry 0 n)) z
-        ∙ sym (ones_length xs)
-        ∙ sym (single_sum (λ (l : Lot). l.times) (λ (x : Value). 1) (λ x. refl) xs)
+        ap (λ n. length (values_from c.entry 0 n)) z ∙ sym (single_length (values_from c.entry 0 c.len))

@@ -29,7 +29,7 @@ zero_canonical = refl
 pub held_again : (b : ℕ) → held (kept (held b)) ≡ held b
 held_again b = of_bits-to_bits binary64 (held b) (of_bits-fits binary64 b)
 
-pub float_sum_fits : {X : Type 0} (skip : Bool) (f : X → Float) (acc : Float) (xs : List X) → T (fits binary64 acc) → T (fits binary64 (float_sum skip f acc xs))
+float_sum_fits : {X : Type 0} (skip : Bool) (f : X → Float) (acc : Float) (xs : List X) → T (fits binary64 acc) → T (fits binary64 (float_sum skip f acc xs))
 float_sum_fits skip f acc [] h = h
 float_sum_fits skip f acc (x ∷ xs) h =
     float_sum_fits skip f (float_step skip acc (f x)) xs (cond-fits binary64 (skip && is_nan (f x)) acc (add binary64 acc (f x)) h (add-fits binary64 acc (f x)))
@@ -57,6 +57,6 @@ stretches_run small skip (xs ∷ ss) a =
     let r = stretches_run small skip ss (kept sum) in
     (r.0, r.1, λ h. r.2 (kept_canonical sum (float_sum_fits skip float_of (held a) xs (of_bits-fits binary64 a))))
 
-pub column_adds_floats : (small b skip : Bool) (c : Meaning) (a : ℕ) → (r : ℕ) × (column_sum_by family.Float small b c skip (Floating a) ≡ Some (Floating r)) × (Canonical a → Canonical r)
+pub column_adds_floats : (small b skip : Bool) (c : Meaning) (a : ℕ) → FloatRuns a (column_sum_by family.Float small b c skip (Floating a))
 column_adds_floats small true skip c a = whole_runs skip (c.entry 0) c.len a
 column_adds_floats small false skip c a = stretches_run small skip (stretches_from c.entry 0 c.len) a

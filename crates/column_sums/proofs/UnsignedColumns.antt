@@ -1,8 +1,8 @@
 -- A column adds the exact total of its lots to an unsigned state. Assumes nothing.
-use Rattle.std.proofs.Common.{◌≡◌, ℕ, ◌+◌, ◌*◌, ◌^◌, ◌<◌, ◌≤◌, Bool, true, false, cond, eqb, ltb, List, [], ◌∷◌, Some, None, sum_by, Option, sym, refl, ap, ◌∙◌, ⊎_elim, arith, MatchOption}
+use Rattle.std.proofs.Common.{◌≡◌, ℕ, ◌+◌, ◌*◌, ◌^◌, ◌<◌, ◌≤◌, Bool, true, false, cond, eqb, ltb, List, [], ◌∷◌, Some, None, sum_by, Option, sym, refl, ap, ◌∙◌, ⊎_elim, arith}
 use Rattle.std.specs.Option.{option_map}
 use Rattle.std.proofs.lemmas.List.Sums.{sum_by-append}
-use Rattle.std.proofs.lemmas.Bool.{cases_lt, ltb-true, ltb-false, cond_both}
+use Rattle.std.proofs.lemmas.Bool.{cases_lt, ltb-false, cond_both}
 use Rattle.dtype.specs.declared.ptype.Family.TheVariants as family
 use Rattle.dtype.specs.declared.value.Value.{Value}
 use Rattle.dtype.specs.Values.{nat_of}
@@ -14,8 +14,8 @@ use Rattle.sums.proofs.UnsignedTotals.{unsigned_total}
 use Rattle.columns.specs.States.{add_stretches, onto, step_product, unsigned_span, unsigned_times}
 use Rattle.columns.specs.Columns.{Meaning, whole_sum, stretches_from}
 use Rattle.column_sums.specs.ColumnSums.{column_sum_by}
-use Rattle.column_sums.specs.Lots.{nat_worth, nat_total, whole_lot, lots_by, values_from}
-use Rattle.column_sums.proofs.Entries.{flat, flat_stretches, single_sum}
+use Rattle.column_sums.specs.Lots.{nat_worth, nat_total, whole_lot, lots_by}
+use Rattle.column_sums.proofs.Entries.{none_stays, flat, stretches_sum}
 
 -- a total that 64 bits hold, as a state, or none
 abbrev pub capped_total : ℕ → Option SumState
@@ -27,19 +27,8 @@ capped_within m h = ap (option_map Unsigned) (sym (checked_within m h))
 pub capped_over : (m : ℕ) → 2 ^ 64 ≤ m → capped_total m ≡ None
 capped_over m h = ap (option_map Unsigned) (sym (checked_over m h))
 
--- an answer that is the total m where that fits, and none where it does not
-abbrev pub Capped : ℕ → Option ℕ → Type 0
-Capped m o = MatchOption o (2 ^ 64 ≤ m) (λ t. (t < 2 ^ 64) × (t ≡ m))
-
-pub capped_is : (m : ℕ) (o : Option ℕ) → Capped m o → o ≡ checked unsigned64 m
-capped_is m None h = checked_over m h
-capped_is m (Some t) h = ap Some h.1 ∙ checked_within m (let low = h.0 in let e = h.1 in omega arith)
-
-pub capped_so : (m : ℕ) → Capped m (checked unsigned64 m)
-capped_so m = cond_both (ltb m (2 ^ 64)) (Some m) None (Capped m) (λ e. (ltb-true m (2 ^ 64) e, refl)) (λ e. ltb-false m (2 ^ 64) e)
-
 -- what adds w to every number that fits adds it to a total
-pub onto_capped : (f : SumState → Option SumState) (w : ℕ) → ((a : ℕ) → a < 2 ^ 64 → f (Unsigned a) ≡ capped_total (a + w)) → (m : ℕ) → onto f (capped_total m) ≡ capped_total (m + w)
+onto_capped : (f : SumState → Option SumState) (w : ℕ) → ((a : ℕ) → a < 2 ^ 64 → f (Unsigned a) ≡ capped_total (a + w)) → (m : ℕ) → onto f (capped_total m) ≡ capped_total (m + w)
 onto_capped f w h m =
     ⊎_elim (λ low. ap (onto f) (capped_within m low) ∙ h m low)
     (λ high. ap (onto f) (capped_over m high) ∙ sym (capped_over (m + w) (omega arith)))
@@ -50,7 +39,7 @@ onto_nothing f h None = refl
 onto_nothing f h (Some st) = h st
 
 span_adds : (small : Bool) (xs : List Value) (a : ℕ) → a < 2 ^ 64 → unsigned_span small xs (Unsigned a) ≡ capped_total (a + sum_by nat_of xs)
-span_adds small xs a low = ap (option_map Unsigned) (capped_is (a + sum_by nat_of xs) _ (unsigned_total small nat_of a xs low))
+span_adds small xs a low = ap (option_map Unsigned) (unsigned_total small nat_of a xs low)
 
 stretches_add : (small skip : Bool) (ss : List (List Value)) (m : ℕ) → add_stretches family.Unsigned small skip ss (capped_total m) ≡ capped_total (m + sum_by nat_of (flat ss))
 stretches_add small skip [] m = ap capped_total (omega arith)
@@ -78,17 +67,10 @@ pub column_adds_unsigned : (small b skip : Bool) (c : Meaning) (m : ℕ)
     → onto (column_sum_by family.Unsigned small b c skip) (option_map Unsigned (checked unsigned64 m)) ≡ option_map Unsigned (checked unsigned64 (m + nat_total (lots_by b c)))
 column_adds_unsigned small true skip c m = whole_adds skip (c.entry 0) c.len m
 column_adds_unsigned small false skip c m =
-    let ss = stretches_from c.entry 0 c.len in
-    let vs = values_from c.entry 0 c.len in
     started (capped_total m)
-    ∙ stretches_add small skip ss m
-    ∙ ap (λ xs. capped_total (m + sum_by nat_of xs)) (flat_stretches c.entry 0 c.len)
-    ∙ ap (λ w. capped_total (m + w)) (sym (single_sum nat_worth nat_of (λ x. omega arith) vs))
+    ∙ stretches_add small skip (stretches_from c.entry 0 c.len) m
+    ∙ ap (λ w. capped_total (m + w)) (stretches_sum nat_worth nat_of (λ x. omega arith) c)
   where
-    rest : (ss : List (List Value)) → None ≡ add_stretches family.Unsigned small skip ss None
-    rest [] = refl
-    rest (s ∷ ss) = rest ss
-
     started : (o : Option SumState) → onto (column_sum_by family.Unsigned small false c skip) o ≡ add_stretches family.Unsigned small skip (stretches_from c.entry 0 c.len) o
-    started None = rest (stretches_from c.entry 0 c.len)
+    started None = sym (none_stays family.Unsigned small skip (stretches_from c.entry 0 c.len))
     started (Some st) = refl

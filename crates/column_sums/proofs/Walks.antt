@@ -1,15 +1,17 @@
 -- A loop over a column's stretches reaches the column's sum. Assumes nothing.
-use Rattle.std.proofs.Common.{◌≡◌, ℕ, zero, suc, ◌+◌, ◌-◌, ◌<◌, ◌≤◌, Bool, true, false, cond, not, ◌&&◌, eqb, ltb, List, [], ◌∷◌, is_some as option_is_some, Some, None, Option, unwrap_or, sym, refl, ap, ◌∙◌, ⊎_elim, arith, eq-eqb, ne_eqb}
-use Rattle.std.proofs.lemmas.Bool.{cases_Bool, cases_eq, cases_lt, false≢true, lt-ltb}
+use Rattle.std.proofs.Common.{◌≡◌, ℕ, zero, suc, ◌+◌, ◌-◌, ◌<◌, ◌≤◌, Bool, true, false, cond, not, ◌&&◌, ltb, [], ◌∷◌, is_some as option_is_some, Some, None, Option, unwrap_or, refl, ap, ◌∙◌, ⊎_elim, arith, ne_eqb}
+use Rattle.std.proofs.lemmas.Grind.{common_steps}
+use Rattle.std.proofs.lemmas.Bool.{cases_eq, cases_lt, lt-ltb}
 use Rattle.dtype.specs.declared.ptype.Family.{Family}
 use Rattle.dtype.specs.declared.value.Value.{Value}
 use Rattle.dtype.specs.declared.value.Value.TheVariants as v
 use Rattle.dtype.specs.Types.{family_of, narrow}
 use Rattle.sums.specs.declared.state.SumState.{SumState}
 use Rattle.columns.specs.declared.bitmap.Stretch.{Stretch}
-use Rattle.columns.specs.States.{add_span, add_stretches}
-use Rattle.columns.specs.Columns.{Meaning, Proper, valid, some, opened, lead, stretches_from, run_from, whole_sum, stretch_sum, stretch_sum_by}
+use Rattle.columns.specs.States.{add_stretches}
+use Rattle.columns.specs.Columns.{Meaning, Proper, valid, some, lead, stretches_from, run_from, whole_sum, stretch_sum, stretch_sum_by}
 use Rattle.columns.specs.Stretches.{begins, NoneFrom, IsRun, Found}
+use Rattle.column_sums.proofs.Entries.{none_stays}
 use Rattle.column_sums.specs.ColumnSums.{column_sum, column_sum_by, add_from, add_from_by}
 
 -- no run goes on into entry i
@@ -17,27 +19,17 @@ abbrev pub Fresh : (ℕ → Bool) → ℕ → Type 0
 Fresh w i = (0 < i) → w i ≡ true → w (i - 1) ≡ false
 
 pub is_some : (o : Option Value) → option_is_some o ≡ true → o ≡ Some (unwrap_or o (v.U8 0))
-is_some None h = absurd (false≢true h)
+is_some None h = absurd cc
 is_some (Some x) h = refl
 
-pub is_none : (o : Option Value) → option_is_some o ≡ false → o ≡ None
+is_none : (o : Option Value) → option_is_some o ≡ false → o ≡ None
 is_none None h = refl
-is_none (Some x) h = absurd (false≢true (sym h))
-
-and_left_is : (a b : Bool) → (a && b) ≡ false → b ≡ true → a ≡ false
-and_left_is true b h e = sym e ∙ h
-and_left_is false b h e = refl
+is_none (Some x) h = absurd cc
 
 module _ (w : ℕ → Bool) where
   pub first_null : (i : ℕ) → Fresh w i → begins w i ≡ false → w i ≡ false
-  first_null i f b =
-      ⊎_elim (λ t. and_left_is (w i) (cond (eqb i 0) true (not (w (i - 1)))) b (opens t)) (λ t. t) (cases_Bool (w i))
-    where
-      opens : w i ≡ true → cond (eqb i 0) true (not (w (i - 1))) ≡ true
-      opens t =
-          ⊎_elim (λ e. ap (λ c. cond c true (not (w (i - 1)))) (eq-eqb i 0 e))
-          (λ e. ap (λ c. cond c true (not (w (i - 1)))) (ne_eqb i 0 e) ∙ ap not (f (omega arith) t))
-          (cases_eq i 0)
+  first_null zero f b = grind (arith, common_steps)
+  first_null (suc i) f b = let g = f (omega arith) in grind (arith, common_steps)
 
   -- after a null a run may start
   after_null : (i : ℕ) → w i ≡ false → Fresh w (suc i)
@@ -63,8 +55,9 @@ module _ (entry : ℕ → Option Value) where
   passed (suc gap) i s m zero se ne f none = absurd (omega arith)
   passed (suc gap) i s m (suc n) se ne f none =
       let here : there i ≡ false = first_null there i f (none i (omega arith) (omega arith)) in
-      ap (λ o. opened o (some n && there (suc i)) (stretches_from entry (suc i) n)) (is_none (entry i) here)
-      ∙ passed gap (suc i) s m n (omega arith) (omega arith) (after_null there i here) (λ k a b. none k (omega arith) b)
+      let null = is_none (entry i) here in
+      let rest = passed gap (suc i) s m n (omega arith) (omega arith) (after_null there i here) (λ k a b. none k (omega arith) b) in
+      cc
 
   pub stops : (e m : ℕ) → (some m && there e) ≡ false → run_from entry e m ≡ []
   stops e zero h = refl
@@ -80,14 +73,13 @@ module _ (entry : ℕ → Option Value) where
       let next : (some n && there (suc s)) ≡ false = (λ j. some (b j) && there (a j)) ∙ end in
       let x = is_some (entry s) (all s (omega arith) (omega arith)) in
       let none = stops (suc s) n next in
-      (λ j. opened (x j) (next j) (stretches_from entry (a j) (b j)))
-      ∙ (let back = sym none in let y = sym x in λ j. lead (y j) (back j) ∷ stretches_from entry e m)
+      cc
   run_first (suc l) s e m (suc zero) ee ne all end = absurd (omega arith)
   run_first (suc l) s e m (suc (suc n)) ee ne all end =
       let rest = run_first l (suc s) e m (suc n) (omega arith) (omega arith) (λ k a b. all k (omega arith) b) end in
       let x = is_some (entry s) (all s (omega arith) (omega arith)) in
-      (λ j. opened (x j) (all (suc s) (omega arith) (omega arith) j) (rest j))
-      ∙ (let y = sym x in λ j. lead (y j) (run_from entry (suc s) (suc n)) ∷ stretches_from entry e m)
+      let more = all (suc s) (omega arith) (omega arith) in
+      cc
 
 -- ---- a constant has one stretch, of all its entries
 module _ (c : Meaning) (skip : Bool) (good : Proper c) where
@@ -103,24 +95,30 @@ module _ (c : Meaning) (skip : Bool) (good : Proper c) where
   -- it starts at 0 and ends at the end
   pub whole_start : c.constant ≡ true → (s e : ℕ) → begins (valid c) s ≡ true → IsRun (valid c) c.len s e → s ≡ 0
   whole_start k s e b r =
-      ⊎_elim (λ z. z) (λ z. absurd (false≢true (sym (late z) ∙ b))) (cases_eq s 0)
+      ⊎_elim (λ z. z) (λ z. let l = late z in absurd cc) (cases_eq s 0)
     where
       late : (s ≡ 0 → ⊥) → begins (valid c) s ≡ false
       late z =
           let less = r.some in
           let top = r.within in
           let here = r.filled s (omega arith) (omega arith) in
-          let before : valid c (s - 1) ≡ true = same_valid k (s - 1) (omega arith) ∙ sym (same_valid k s (omega arith)) ∙ here in
+          let p = same_valid k (s - 1) (omega arith) in
+          let q = same_valid k s (omega arith) in
+          let before : valid c (s - 1) ≡ true = cc in
           λ i. here i && cond (ne_eqb s 0 z i) true (not (before i))
 
   pub whole_end : c.constant ≡ true → (s e : ℕ) → IsRun (valid c) c.len s e → e ≡ c.len
   whole_end k s e r =
-      ⊎_elim (λ low. absurd (false≢true (sym (r.ended low) ∙ true_at low))) (λ high. let top = r.within in omega arith) (cases_lt e c.len)
+      ⊎_elim early (λ high. let top = r.within in omega arith) (cases_lt e c.len)
     where
-      true_at : e < c.len → valid c e ≡ true
-      true_at low =
+      early : e < c.len → e ≡ c.len
+      early low =
           let less = r.some in
-          same_valid k e low ∙ sym (same_valid k s (omega arith)) ∙ r.filled s (omega arith) less
+          let a = same_valid k e low in
+          let b = same_valid k s (omega arith) in
+          let f = r.filled s (omega arith) less in
+          let n = r.ended low in
+          absurd cc
 
   past : (i : ℕ) (q : Option SumState) → 0 < i → add_from_by true c skip i q ≡ q
   past zero q h = absurd (omega arith)
@@ -134,9 +132,8 @@ module _ (c : Meaning) (skip : Bool) (good : Proper c) where
       let late = h.late in
       let a : s.start ≡ 0 = whole_start k s.start s.end h.starts r in
       let z : from ≡ 0 = omega arith in
-      ap (λ i. add_from_by true c skip i (Some st)) z
-      ∙ (let b = sym a in λ i. stretch_sum_by true c skip (b i) st)
-      ∙ sym (past s.end (stretch_sum_by true c skip s.start st) (omega arith))
+      let rest = past s.end (stretch_sum_by true c skip s.start st) (omega arith) in
+      cc
   next_by false k from s st f h =
       let r = h.run in
       let less = r.some in
@@ -146,9 +143,7 @@ module _ (c : Meaning) (skip : Bool) (good : Proper c) where
       let over = passed c.entry (s.start - from) from s.start (c.len - s.start) (c.len - from) (omega arith) (omega arith) (f (omega arith)) h.first in
       let one = run_first c.entry (s.end - s.start - 1) s.start s.end (c.len - s.end) (c.len - s.start) (omega arith) (omega arith) r.filled (no_next (valid c) c.len s.start s.end r) in
       let flag : (ltb s.start c.len && begins (valid c) s.start) ≡ true = (λ i. lt-ltb s.start c.len low i && h.starts i) in
-      ap (λ ss. add_stretches mine small skip ss (Some st)) (over ∙ one)
-      ∙ ap (add_stretches mine small skip (stretches_from c.entry s.end (c.len - s.end)))
-      (sym (ap (λ b. cond b (add_span mine small skip (run_from c.entry s.start (c.len - s.start)) st) (Some st)) flag))
+      rw (over, one, flag) refl
 
   -- one stretch found and added
   pub add_next : (from : ℕ) (s : Stretch) (st : SumState) → (from < c.len → Fresh (valid c) from) → Found (valid c) c.len from s
@@ -157,16 +152,12 @@ module _ (c : Meaning) (skip : Bool) (good : Proper c) where
 
   -- after a run no run goes on
   pub fresh_end : (s e : ℕ) → IsRun (valid c) c.len s e → e < c.len → Fresh (valid c) e
-  fresh_end s e r low h t = absurd (false≢true (sym (r.ended low) ∙ t))
+  fresh_end s e r low h t = let n = r.ended low in absurd cc
 
   none_by_rest : (b : Bool) (from : ℕ) → add_from_by b c skip from None ≡ None
   none_by_rest true zero = refl
   none_by_rest true (suc i) = refl
-  none_by_rest false from = rest (stretches_from c.entry from (c.len - from))
-    where
-      rest : (ss : List (List Value)) → add_stretches mine small skip ss None ≡ None
-      rest [] = refl
-      rest (x ∷ ss) = rest ss
+  none_by_rest false from = none_stays mine small skip (stretches_from c.entry from (c.len - from))
 
   -- after an overflow nothing more is added
   pub overflow_stays : (from : ℕ) → add_from c skip from None ≡ None
@@ -175,7 +166,7 @@ module _ (c : Meaning) (skip : Bool) (good : Proper c) where
   nothing_whole : (o : Option Value) (n : ℕ) (st : SumState) → (0 < n → option_is_some o ≡ false) → whole_sum mine skip o n st ≡ Some st
   nothing_whole None n st h = refl
   nothing_whole (Some x) zero st h = refl
-  nothing_whole (Some x) (suc n) st h = absurd (false≢true (sym (h (omega arith))))
+  nothing_whole (Some x) (suc n) st h = let e = h (omega arith) in absurd cc
 
   none_by : (b : Bool) (from : ℕ) (st : SumState) → (from < c.len → Fresh (valid c) from) → NoneFrom (valid c) from c.len → add_from_by b c skip from (Some st) ≡ Some st
   none_by true zero st f h = nothing_whole (c.entry 0) c.len st (λ low. first_null (valid c) 0 (f low) (h 0 (omega arith) low))

@@ -1,3 +1,3 @@
+pub mod Finds
 pub mod Parts
-pub mod Times
 pub mod Views

@@ -1,8 +1,8 @@
 -- What a primitive column means: values and a bitmap. Assumes nothing.
-use Rattle.std.specs.Prelude.{◌≡◌, ℕ, zero, suc, ◌<◌, Bool, true, false, cond, List, [], ◌∷◌, map, length, Some, None, Option, ◌≢◌, refl}
-use Rattle.std.proofs.Common.{sym, arith}
+use Rattle.std.specs.Prelude.{◌≡◌, ℕ, zero, suc, ◌<◌, Bool, true, false, cond, List, [], ◌∷◌, map, length, is_some, Some, None, Option, ◌≢◌, unwrap_or, refl}
 use Rattle.std.specs.List.{slice_get}
-use Rattle.std.proofs.lemmas.Bool.{false≢true}
+use Rattle.std.specs.Option.{option_map}
+use Rattle.std.proofs.lemmas.Option.{slice_get-get_or}
 use Rattle.dtype.specs.declared.ptype.PType.{PType}
 use Rattle.dtype.specs.declared.ptype.DType.{DType}
 use Rattle.dtype.specs.declared.value.Value.{Value}
@@ -15,11 +15,18 @@ use Rattle.columns.specs.Bitmaps.{valid_by}
 use Rattle.columns.specs.Columns.{Meaning, Proper}
 use Rattle.columns.specs.Values.{values_kind, values_of}
 
+-- a column with a bitmap is nullable, and one without has no bits
+abbrev pub nullable_of : Primitive → Bool
+nullable_of c = is_some c.validity
+
+abbrev pub bits_of : Primitive → List ℕ
+bits_of c = unwrap_or (option_map (λ b. b.now) c.validity) []
+
 abbrev pub primitive_meaning : Primitive → Meaning
 primitive_meaning c = record {
-  dtype = record { ptype = values_kind c.values; nullable = c.nullable };
+  dtype = record { ptype = values_kind c.values; nullable = nullable_of c };
   len = length (values_of c.values);
-  entry = λ i. cond (valid_by c.nullable c.bits.now i) (slice_get (values_of c.values) i) None;
+  entry = λ i. cond (valid_by (nullable_of c) (bits_of c) i) (slice_get (values_of c.values) i) None;
   constant = false;
 }
 
@@ -47,9 +54,7 @@ values_typed (w.F64 s) i = nth_typed _ v.F64 (λ x. refl) s.now i
 
 -- an entry below the length is there
 nth_there : (xs : List Value) (i : ℕ) → i < length xs → slice_get xs i ≢ None
-nth_there [] i h e = omega arith
-nth_there (x ∷ xs) zero h e = let z : ◌≡◌ {A = ℕ} 0 1 = cc in omega arith
-nth_there (x ∷ xs) (suc i) h e = nth_there xs i (omega arith) e
+nth_there xs i h e = let there = slice_get-get_or xs i (v.U8 0) h in cc
 
 typed_entry : (d : DType) (o : Option Value) (flag : Bool) → Typed d.ptype o → (o ≢ None) → (d.nullable ≡ false → flag ≡ true) → ValueOf d (cond flag o None)
 typed_entry d None true t there f = absurd (there refl)
@@ -58,14 +63,14 @@ typed_entry d o false t there f = nullable_or d.nullable refl
   where
     nullable_or : (b : Bool) → d.nullable ≡ b → d.nullable ≡ true
     nullable_or true e = e
-    nullable_or false e = absurd (false≢true (f e))
+    nullable_or false e = let g = f e in absurd cc
 
 always_valid : (b : Bool) (bits : List ℕ) (i : ℕ) → b ≡ false → valid_by b bits i ≡ true
-always_valid true bits i e = absurd (false≢true (sym e))
+always_valid true bits i e = absurd cc
 always_valid false bits i e = refl
 
 pub primitive_proper : (c : Primitive) → Proper (primitive_meaning c)
 primitive_proper c = record {
-  typed = λ i low. typed_entry (primitive_meaning c).dtype (slice_get (values_of c.values) i) (valid_by c.nullable c.bits.now i) (values_typed c.values i) (nth_there (values_of c.values) i low) (always_valid c.nullable c.bits.now i);
-  same = λ h i low. absurd (false≢true h);
+  typed = λ i low. typed_entry (primitive_meaning c).dtype (slice_get (values_of c.values) i) (valid_by (nullable_of c) (bits_of c) i) (values_typed c.values i) (nth_there (values_of c.values) i low) (always_valid (nullable_of c) (bits_of c) i);
+  same = λ h i low. absurd cc;
 }

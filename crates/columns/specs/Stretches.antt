@@ -26,3 +26,7 @@ pub record Found (valid : ℕ → Bool) (n from : ℕ) (s : Stretch) : Type 0 wh
 
 abbrev pub NextStretch : (ℕ → Bool) → ℕ → ℕ → Option Stretch → Type 0
 NextStretch valid n from r = MatchOption r (NoneFrom valid from n) (λ s. Found valid n from s)
+
+-- a step of an iterator over the stretches: the next one, and then what follows it; or none, and it stays where it is
+abbrev pub StretchStep : (ℕ → Bool) → ℕ → ℕ → ℕ → Option Stretch → Type 0
+StretchStep valid n from to r = MatchOption r (NoneFrom valid from n × (to ≡ from)) (λ s. Found valid n from s × (to ≡ s.end))

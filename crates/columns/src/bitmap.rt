@@ -13,12 +13,8 @@ pub struct Stretch {
 pub fn is_valid(bits: &[u8], i: u64) -> bool
     ensures { result ≡ bit_at bits.now i }
 {
-    let byte = (i / 8) as usize;
-    if byte < bits.len() {
-        (bits[byte] >> (i % 8)) % 2 == 1
-    } else {
-        false
-    }
+    bits.get((i / 8) as usize)
+        .is_some_and(|&byte| (byte >> (i % 8)) % 2 == 1)
 }
 
 // Whether a stretch starts at i.
@@ -33,23 +29,16 @@ fn run_end(bits: &[u8], len: u64, start: u64) -> u64
     requires { (start < len) × (bit_at bits.now start ≡ true) }
     ensures { IsRun (bit_at bits.now) len start result }
 {
-    for end in start + 1..len {
-        if !is_valid(bits, end) {
-            return end;
-        }
-    }
-    len
+    (start + 1..len)
+        .find(|&end| !is_valid(bits, end))
+        .unwrap_or(len)
 }
 
 // The first stretch of `len` entries that starts at `from` or later.
 pub fn next_stretch(bits: &[u8], len: u64, from: u64) -> Option<Stretch>
     ensures { NextStretch (bit_at bits.now) len from result }
 {
-    for start in from..len {
-        if starts_at(bits, start) {
-            let end = run_end(bits, len, start);
-            return Some(Stretch { start, end });
-        }
-    }
-    None
+    let start = (from..len).find(|&i| starts_at(bits, i))?;
+    let end = run_end(bits, len, start);
+    Some(Stretch { start, end })
 }

@@ -31,7 +31,8 @@ pub trait Column {
     fn next_stretch(&self, from: u64) -> Option<Stretch>
         ensures { NextStretch (valid (meaning self.now)) (meaning self.now).len from result };
 
-    // The stretch that starts at `at` added to a state, and the state itself where none starts. None is an overflow.
+    // The stretch that starts at `at` added to a state, and the state itself where none starts. None is an overflow. It takes
+    // `at` alone, so that it answers for any number, and its promise is by `at`.
     fn add_stretch(&self, at: u64, skip_nans: bool, state: SumState) -> Option<SumState>
         ensures { result ≡ stretch_sum (meaning self.now) skip_nans at state };
 }

@@ -1,6 +1,6 @@
 ghost use Rattle.std.specs.Prelude.{◌≡◌};
 ghost use Rattle.columns.specs.Constants.{constant_meaning, constant_proper};
-ghost use Rattle.columns.specs.States.{unsigned_times, signed_times, float_times, times_added};
+ghost use Rattle.columns.specs.States.{times_added};
 
 use crate::bitmap::Stretch;
 use crate::column::Column;
@@ -12,49 +12,14 @@ use sums::{
 };
 
 // One scalar, as often as `len` says.
-#[derive(Clone, Copy)]
+#[derive(Clone, Copy, PartialEq, Debug)]
 pub struct Constant {
     pub scalar: Scalar,
     pub len: u64,
 }
 
-fn add_unsigned_times(x: u64, n: u64, state: SumState) -> Option<SumState>
-    ensures { result ≡ unsigned_times x n state }
-{
-    let SumState::Unsigned(acc) = state else {
-        return None;
-    };
-    let product = checked_mul_u64(x, n)?;
-    let sum = checked_add_u64(acc, product)?;
-    Some(SumState::Unsigned(sum))
-}
-
-fn add_signed_times(x: i64, n: u64, state: SumState) -> Option<SumState>
-    ensures { result ≡ signed_times x n state }
-{
-    let SumState::Signed(acc) = state else {
-        return None;
-    };
-    let product = checked_mul_i64(x, n)?;
-    let sum = checked_add_i64(acc, product)?;
-    Some(SumState::Signed(sum))
-}
-
-// The count is rounded once, the product once and the sum once.
-fn add_float_times(x: f64, n: u64, state: SumState, skip_nans: bool) -> Option<SumState>
-    ensures { result ≡ float_times skip_nans x n state }
-{
-    let SumState::Float(acc) = state else {
-        return None;
-    };
-    if skip_nans && x.is_nan() {
-        return Some(state);
-    }
-    let sum = float_from_bits(acc) + x * nearest_u64_to_f64(n);
-    Some(SumState::Float(float_to_bits(sum)))
-}
-
-// One value n times, as one step.
+// One value n times, as one step. For floats the count is rounded once, the product once and the sum once. A state of
+// another family than the value's does not arise.
 fn add_times(
     family: Family,
     value: Value,
@@ -64,10 +29,24 @@ fn add_times(
 ) -> Option<SumState>
     ensures { result ≡ times_added family skip_nans value n state }
 {
-    match family {
-        Family::Unsigned => add_unsigned_times(value.to_u64(), n, state),
-        Family::Signed => add_signed_times(value.to_i64(), n, state),
-        Family::Float => add_float_times(value.to_f64(), n, state, skip_nans),
+    match (family, state) {
+        (Family::Unsigned, SumState::Unsigned(acc)) => {
+            let product = checked_mul_u64(value.to_u64(), n)?;
+            checked_add_u64(acc, product).map(SumState::Unsigned)
+        }
+        (Family::Signed, SumState::Signed(acc)) => {
+            let product = checked_mul_i64(value.to_i64(), n)?;
+            checked_add_i64(acc, product).map(SumState::Signed)
+        }
+        (Family::Float, SumState::Float(acc)) => {
+            let x = value.to_f64();
+            if skip_nans && x.is_nan() {
+                return Some(state);
+            }
+            let sum = float_from_bits(acc) + x * nearest_u64_to_f64(n);
+            Some(SumState::Float(float_to_bits(sum)))
+        }
+        _ => None,
     }
 }
 
@@ -89,22 +68,15 @@ impl Column for Constant {
     }
 
     fn entry(&self, i: u64) -> Option<Option<Value>> {
-        if i < self.len {
-            Some(self.scalar.value())
-        } else {
-            None
-        }
+        (i < self.len).then_some(self.scalar.value())
     }
 
     fn next_stretch(&self, from: u64) -> Option<Stretch> {
-        if from == 0 && self.len > 0 && self.scalar.value().is_some() {
-            Some(Stretch {
-                start: 0,
-                end: self.len,
-            })
-        } else {
-            None
-        }
+        let starts = from == 0 && self.len > 0 && self.scalar.value().is_some();
+        starts.then_some(Stretch {
+            start: 0,
+            end: self.len,
+        })
     }
 
     fn add_stretch(&self, at: u64, skip_nans: bool, state: SumState) -> Option<SumState> {

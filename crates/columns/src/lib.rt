@@ -4,10 +4,11 @@
 mod bitmap;
 mod column;
 mod constant;
-mod either;
 mod primitive;
+mod stretches;
 #[cfg(test)]
 mod tests;
+mod two_kinds;
 mod values;
 
 pub use bitmap::{Stretch, is_valid, next_stretch};
@@ -15,4 +16,5 @@ pub use column::Column;
 pub use constant::Constant;
 pub use either::Either;
 pub use primitive::Primitive;
+pub use stretches::Stretches;
 pub use values::Values;

@@ -1,22 +1,24 @@
-use crate::bitmap::next_stretch;
+use crate::bitmap::{Stretch, next_stretch};
 
-// Whether the next stretch from an entry on is this one.
-fn found(bits: &[u8], len: u64, from: u64, start: u64, end: u64) -> bool {
-    match next_stretch(bits, len, from) {
-        Some(stretch) => stretch.start == start && stretch.end == end,
-        None => false,
-    }
+// The stretch from `start` up to `end`.
+fn found(start: u64, end: u64) -> Option<Stretch> {
+    Some(Stretch { start, end })
 }
 
 #[test]
 fn stretches_of_bitmaps(rt: HostRuntime) {
-    assert!(rt; next_stretch(&[], 0, 0).is_none() && next_stretch(&[0, 0], 16, 0).is_none());
+    assert_eq!(rt; next_stretch(&[], 0, 0), None);
+    assert_eq!(rt; next_stretch(&[0, 0], 16, 0), None);
     // full bytes, and a run across two
-    assert!(rt; found(&[255, 255], 16, 0, 0, 16) && found(&[0xf8, 0x07], 16, 0, 3, 11));
+    assert_eq!(rt; next_stretch(&[255, 255], 16, 0), found(0, 16));
+    assert_eq!(rt; next_stretch(&[0xf8, 0x07], 16, 0), found(3, 11));
     // spare bits are set, and do not count
-    assert!(rt; found(&[0xf1], 5, 0, 0, 1) && found(&[0xf1], 5, 1, 4, 5));
-    assert!(rt; next_stretch(&[0xf1], 5, 5).is_none());
+    assert_eq!(rt; next_stretch(&[0xf1], 5, 0), found(0, 1));
+    assert_eq!(rt; next_stretch(&[0xf1], 5, 1), found(4, 5));
+    assert_eq!(rt; next_stretch(&[0xf1], 5, 5), None);
     // the last run goes to the end
     let bits = &[0x2c, 0x80];
-    assert!(rt; found(bits, 16, 0, 2, 4) && found(bits, 16, 4, 5, 6) && found(bits, 16, 6, 15, 16));
+    assert_eq!(rt; next_stretch(bits, 16, 0), found(2, 4));
+    assert_eq!(rt; next_stretch(bits, 16, 4), found(5, 6));
+    assert_eq!(rt; next_stretch(bits, 16, 6), found(15, 16));
 }

@@ -1,4 +1,5 @@
 pub mod Cached
+pub mod Names
 pub mod Refusals
 pub mod Same
 pub mod Types

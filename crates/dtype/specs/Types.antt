@@ -1,10 +1,12 @@
 -- The ten number types: their codes, families and widths. Assumes nothing.
-use Rattle.std.specs.Prelude.{ℕ, Bool, true, false, not, ◌&&◌, ◌==◌}
+use Rattle.std.specs.Prelude.{◌≡◌, ℕ, Bool, true, false, not, ◌&&◌, Result, MatchResult, ◌==◌, ◌≢◌}
 use Rattle.dtype.specs.declared.ptype.Family.{Family}
 use Rattle.dtype.specs.declared.ptype.Family.TheVariants.{Unsigned as unsigned, Signed as signed, Float as floating}
 use Rattle.dtype.specs.declared.ptype.PType.{PType}
 use Rattle.dtype.specs.declared.ptype.PType.TheVariants as p
 use Rattle.dtype.specs.declared.ptype.DType.{DType}
+use Rattle.dtype.specs.declared.refusal.Refusal.{Refusal}
+use Rattle.dtype.specs.declared.refusal.Refusal.TheVariants.{TypeCode}
 
 abbrev pub code_of : PType → ℕ
 code_of p.U8 = 0
@@ -17,6 +19,10 @@ code_of p.I32 = 6
 code_of p.I64 = 7
 code_of p.F32 = 9
 code_of p.F64 = 10
+
+-- the type that has this code, or a refusal where none has
+abbrev pub Decodes : ℕ → Result PType Refusal → Type 0
+Decodes code r = MatchResult r (λ t. code_of t ≡ code) (λ e. (e ≡ TypeCode) × ((t : PType) → code_of t ≢ code))
 
 abbrev pub family_of : PType → Family
 family_of p.U8 = unsigned

@@ -1,6 +1,7 @@
 // Number types, dtypes, values, scalars, statistics records and refusals.
 #![tactic(auto)]
 
+mod names;
 mod precision;
 mod ptype;
 mod refusal;
@@ -8,6 +9,7 @@ mod scalar;
 mod statistics;
 mod value;
 
+pub use names::UnknownType;
 pub use precision::Precision;
 pub use ptype::{DType, Family, PType};
 pub use refusal::Refusal;

@@ -1,7 +1,5 @@
-ghost use Rattle.std.specs.Prelude.{◌≡◌, Decides, MatchResult, ◌≢◌};
-ghost use Rattle.dtype.specs.declared.ptype.PType.{PType as Kind};
-ghost use Rattle.dtype.specs.declared.refusal.Refusal.TheVariants.{TypeCode};
-ghost use Rattle.dtype.specs.Types.{code_of, family_of, narrow, dtype_of_sum, has_same_type};
+ghost use Rattle.std.specs.Prelude.{◌≡◌};
+ghost use Rattle.dtype.specs.Types.{code_of, Decodes, family_of, narrow, dtype_of_sum};
 
 use crate::refusal::Refusal;
 
@@ -28,11 +26,14 @@ pub enum Family {
     Float,
 }
 
-impl PType {
-    // The type that has this code, or a refusal where none has.
-    pub fn from_code(code: u8) -> Result<PType, Refusal>
-        ensures { MatchResult result (λ t. code_of t ≡ code) (λ e. (e ≡ TypeCode) × ((t : Kind) → code_of t ≢ code)) }
-    {
+// A code is that of one type, and another is refused. With one table of the ten types and a `find` in it (tried here) the
+// search asks for an answer of its own, and this match asks for none.
+impl TryFrom<u8> for PType {
+    type Error = Refusal;
+
+    ghost try_from_gives = { Decodes };
+
+    fn try_from(code: u8) -> Result<Self, Self::Error> {
         match code {
             0 => Ok(PType::U8),
             1 => Ok(PType::U16),
@@ -47,13 +48,17 @@ impl PType {
             _ => Err(Refusal::TypeCode),
         }
     }
+}
 
-    pub fn code(self) -> u8
-        ensures { result ≡ code_of self }
-    {
-        self as u8
+impl From<PType> for u8 {
+    ghost from_gives = { λ ptype code. code ≡ code_of ptype };
+
+    fn from(ptype: PType) -> Self {
+        ptype as u8
     }
+}
 
+impl PType {
     pub fn family(self) -> Family
         ensures { result ≡ family_of self }
     {
@@ -72,7 +77,7 @@ impl PType {
     }
 }
 
-// A number type and whether entries may be null.
+// A number type and whether entries may be null: a dtype is these two, and both always count.
 #[derive(Clone, Copy, PartialEq, Eq, Debug)]
 pub struct DType {
     pub ptype: PType,
@@ -80,16 +85,8 @@ pub struct DType {
 }
 
 impl DType {
-    // Dtypes are the same where both parts are.
-    pub fn is_same(self, other: DType) -> bool
-        ensures equal { Decides result (self ≡ other) }
-        ensures test { result ≡ has_same_type self other }
-    {
-        self == other
-    }
-
     // The dtype of a sum: the widest type of the family, nullable.
-    pub fn sum_dtype(self) -> DType
+    pub fn sum_dtype(self) -> Self
         ensures { result ≡ dtype_of_sum self }
     {
         let ptype = match self.ptype.family() {
@@ -97,7 +94,7 @@ impl DType {
             Family::Signed => PType::I64,
             Family::Float => PType::F64,
         };
-        DType {
+        Self {
             ptype,
             nullable: true,
         }

@@ -1,36 +1,25 @@
 ghost use Rattle.std.specs.Prelude.{◌≡◌};
 ghost use Rattle.dtype.specs.Refusals.{number};
 
-// Why a call was refused. Each case has the number that docs/REFUSALS.md gives it.
+// Why a call was refused, by the number that docs/REFUSALS.md gives each case.
 #[derive(Clone, Copy, PartialEq, Eq, Debug)]
 pub enum Refusal {
-    TypeCode,
-    WrongValue,
-    BitmapLength,
-    ColumnDType,
-    PartialDType,
-    CachedSumType,
-    BoardSize,
-    NoSuchSite,
-    SameSite,
-    UnequalAccumulators,
+    TypeCode = 1,
+    WrongValue = 2,
+    BitmapLength = 3,
+    ColumnDType = 4,
+    PartialDType = 5,
+    CachedSumType = 6,
+    BoardSize = 7,
+    NoSuchSite = 8,
+    SameSite = 9,
+    UnequalAccumulators = 10,
 }
 
-impl Refusal {
-    pub fn number(self) -> u8
-        ensures { result ≡ number self }
-    {
-        match self {
-            Refusal::TypeCode => 1,
-            Refusal::WrongValue => 2,
-            Refusal::BitmapLength => 3,
-            Refusal::ColumnDType => 4,
-            Refusal::PartialDType => 5,
-            Refusal::CachedSumType => 6,
-            Refusal::BoardSize => 7,
-            Refusal::NoSuchSite => 8,
-            Refusal::SameSite => 9,
-            Refusal::UnequalAccumulators => 10,
-        }
+impl From<Refusal> for u8 {
+    ghost from_gives = { λ refusal code. code ≡ number refusal };
+
+    fn from(refusal: Refusal) -> Self {
+        refusal as u8
     }
 }

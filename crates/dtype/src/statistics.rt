@@ -8,7 +8,7 @@ use crate::refusal::Refusal;
 use crate::scalar::Scalar;
 
 // What is known of a column: its sum, which is never null, and its number of NaN entries.
-#[derive(Clone, Copy)]
+#[derive(Clone, Copy, PartialEq, Debug)]
 pub struct Statistics {
     sum: Precision<Scalar>,
     nan_count: Precision<u64>,
@@ -17,19 +17,13 @@ pub struct Statistics {
 
 impl Statistics {
     // Refused where the sum is null.
-    pub fn try_new(sum: Precision<Scalar>, nan_count: Precision<u64>) -> Result<Statistics, Refusal>
+    pub fn try_new(sum: Precision<Scalar>, nan_count: Precision<u64>) -> Result<Self, Refusal>
         ensures { MatchResult result (λ s. (s.sum ≡ sum) × (s.nan_count ≡ nan_count)) (λ e. (e ≡ WrongValue) × (cached_ok sum ≡ false)) }
     {
-        let not_null = match sum {
-            Precision::Exact(s) => s.value().is_some(),
-            Precision::Inexact(s) => s.value().is_some(),
-            Precision::Absent => true,
-        };
-        if not_null {
-            Ok(Statistics { sum, nan_count })
-        } else {
-            Err(Refusal::WrongValue)
+        if let Precision::Exact(s) | Precision::Inexact(s) = sum {
+            s.value().ok_or(Refusal::WrongValue)?;
         }
+        Ok(Self { sum, nan_count })
     }
 
     pub fn sum(self) -> Precision<Scalar>
@@ -48,13 +42,21 @@ impl Statistics {
     pub fn set_sum(&mut self, sum: Scalar) -> Result<(), Refusal>
         ensures { MatchResult result (λ _. (self.new.sum ≡ Exact sum) × (self.new.nan_count ≡ self.old.nan_count)) (λ e. (e ≡ WrongValue) × (sum.value ≡ None) × (self.new ≡ self.old)) }
     {
-        if sum.value().is_none() {
-            return Err(Refusal::WrongValue);
-        }
-        *self = Statistics {
-            sum: Precision::Exact(sum),
-            nan_count: self.nan_count,
-        };
+        *self = Self::try_new(Precision::Exact(sum), self.nan_count)?;
         Ok(())
+    }
+}
+
+// Nothing is known. By hand, as no derive goes over a ghost field.
+impl Default for Statistics {
+    ghost use Rattle.dtype.specs.declared.precision.Precision.TheVariants.{Absent};
+
+    ghost is_default = { λ s. (s.sum ≡ Absent) × (s.nan_count ≡ Absent) };
+
+    fn default() -> Self {
+        Self {
+            sum: Precision::Absent,
+            nan_count: Precision::Absent,
+        }
     }
 }

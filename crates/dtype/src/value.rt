@@ -2,7 +2,6 @@ ghost use Rattle.std.specs.Prelude.{◌≡◌};
 ghost use Rattle.dtype.specs.Values.{kind_of, nan_value, nat_of, int_of, float_of};
 
 use crate::ptype::PType;
-use std::num::f32_to_f64_with_nan;
 
 // A number of one of the ten types.
 #[derive(Clone, Copy, PartialEq, Debug)]
@@ -20,6 +19,7 @@ pub enum Value {
 }
 
 impl Value {
+    // A match of ten arms, as a macro that wrote them would be as long.
     pub fn ptype(self) -> PType
         ensures { result ≡ kind_of self }
     {
@@ -47,7 +47,8 @@ impl Value {
         }
     }
 
-    // The number in a value of the unsigned family, and 0 for another's.
+    // The number in a value of the unsigned family, and 0 for another's, as the definition says: this, `to_i64` and `to_f64`
+    // promise not to fail.
     pub fn to_u64(self) -> u64
         ensures { result ≡ nat_of self }
     {
@@ -78,7 +79,7 @@ impl Value {
         ensures { result ≡ float_of self }
     {
         match self {
-            Value::F32(x) => f32_to_f64_with_nan(x),
+            Value::F32(x) => f64::from(x),
             Value::F64(x) => x,
             _ => 0.0,
         }

@@ -8,63 +8,60 @@ ghost use Rattle.dtype.specs.Types.{narrow};
 ghost use Rattle.dtype.specs.Values.{kind_of, nat_of, int_of, float_of, nan_value};
 
 use dtype::{PType, Value};
-use std::num::f32_to_f64_with_nan;
 
 // A number type of the language, by its type code and the value that each of its numbers is.
 pub trait NativePType: Copy {
-    ghost kind: { Kind };
+    ghost PTYPE: { Kind };
 
     ghost held: { Self → Held };
 
-    fn ptype() -> PType
-        ensures { result ≡ kind };
+    const PTYPE: PType;
 
+    // No `Into<Value>`: clauses speak of the value as a function of the number, and ten impls of `From` would be as long.
     fn value(self) -> Value
         ensures { result ≡ held self };
 
     fn is_nan(self) -> bool
-        ensures { result ≡ nan_value (held self) };
+        ensures { result ≡ nan_value (held self) }
+    {
+        self.value().is_nan()
+    }
 
-    ghost typed: { (x : Self) → kind_of (held x) ≡ kind };
+    ghost typed: { (x : Self) → kind_of (held x) ≡ PTYPE };
 }
 
-// The unsigned types. Each widens to 64 bits without loss.
+// The unsigned types, which are one trait of three: a slice's sum is one text for each family. Each widens to 64 bits without
+// loss. Tried: one default `widen` by `Into<u64>`. `low` is then a law of each type, and a law knows no range of its x.
 pub trait UnsignedPType: NativePType {
     fn widen(self) -> u64
         ensures same { result ≡ nat_of (Self.NativePType.held self) }
-        ensures low { narrow Self.NativePType.kind ≡ true → result < 2 ^ 32 };
+        ensures low { narrow Self.NativePType.PTYPE ≡ true → result < 2 ^ 32 };
 }
 
-// The signed types.
+// The signed types, a trait of its own for the same reason.
 pub trait SignedPType: NativePType {
     fn widen(self) -> i64
         ensures same { result ≡ int_of (Self.NativePType.held self) }
-        ensures low { narrow Self.NativePType.kind ≡ true → FitsSigned w32 result };
+        ensures low { narrow Self.NativePType.PTYPE ≡ true → FitsSigned w32 result };
 }
 
-// The float types. A 32-bit float is a 64-bit one of the same value.
+// The float types, a trait of its own for the same reason. A 32-bit float is a 64-bit one of the same value.
 pub trait FloatPType: NativePType {
     fn widen(self) -> f64
         ensures { result ≡ float_of (Self.NativePType.held self) };
 }
 
 impl NativePType for u8 {
-    ghost kind = { p.U8 };
+    ghost PTYPE = { p.U8 };
 
     ghost held = { λ x. v.U8 x };
 
     ghost typed = { λ x. refl };
 
-    fn ptype() -> PType {
-        PType::U8
-    }
+    const PTYPE: PType = PType::U8;
 
     fn value(self) -> Value {
         Value::U8(self)
-    }
-
-    fn is_nan(self) -> bool {
-        false
     }
 }
 
@@ -75,22 +72,16 @@ impl UnsignedPType for u8 {
 }
 
 impl NativePType for u16 {
-    ghost kind = { p.U16 };
+    ghost PTYPE = { p.U16 };
 
     ghost held = { λ x. v.U16 x };
 
     ghost typed = { λ x. refl };
 
-    fn ptype() -> PType {
-        PType::U16
-    }
+    const PTYPE: PType = PType::U16;
 
     fn value(self) -> Value {
         Value::U16(self)
-    }
-
-    fn is_nan(self) -> bool {
-        false
     }
 }
 
@@ -101,22 +92,16 @@ impl UnsignedPType for u16 {
 }
 
 impl NativePType for u32 {
-    ghost kind = { p.U32 };
+    ghost PTYPE = { p.U32 };
 
     ghost held = { λ x. v.U32 x };
 
     ghost typed = { λ x. refl };
 
-    fn ptype() -> PType {
-        PType::U32
-    }
+    const PTYPE: PType = PType::U32;
 
     fn value(self) -> Value {
         Value::U32(self)
-    }
-
-    fn is_nan(self) -> bool {
-        false
     }
 }
 
@@ -127,22 +112,16 @@ impl UnsignedPType for u32 {
 }
 
 impl NativePType for u64 {
-    ghost kind = { p.U64 };
+    ghost PTYPE = { p.U64 };
 
     ghost held = { λ x. v.U64 x };
 
     ghost typed = { λ x. refl };
 
-    fn ptype() -> PType {
-        PType::U64
-    }
+    const PTYPE: PType = PType::U64;
 
     fn value(self) -> Value {
         Value::U64(self)
-    }
-
-    fn is_nan(self) -> bool {
-        false
     }
 }
 
@@ -153,22 +132,16 @@ impl UnsignedPType for u64 {
 }
 
 impl NativePType for i8 {
-    ghost kind = { p.I8 };
+    ghost PTYPE = { p.I8 };
 
     ghost held = { λ x. v.I8 x };
 
     ghost typed = { λ x. refl };
 
-    fn ptype() -> PType {
-        PType::I8
-    }
+    const PTYPE: PType = PType::I8;
 
     fn value(self) -> Value {
         Value::I8(self)
-    }
-
-    fn is_nan(self) -> bool {
-        false
     }
 }
 
@@ -179,22 +152,16 @@ impl SignedPType for i8 {
 }
 
 impl NativePType for i16 {
-    ghost kind = { p.I16 };
+    ghost PTYPE = { p.I16 };
 
     ghost held = { λ x. v.I16 x };
 
     ghost typed = { λ x. refl };
 
-    fn ptype() -> PType {
-        PType::I16
-    }
+    const PTYPE: PType = PType::I16;
 
     fn value(self) -> Value {
         Value::I16(self)
-    }
-
-    fn is_nan(self) -> bool {
-        false
     }
 }
 
@@ -205,22 +172,16 @@ impl SignedPType for i16 {
 }
 
 impl NativePType for i32 {
-    ghost kind = { p.I32 };
+    ghost PTYPE = { p.I32 };
 
     ghost held = { λ x. v.I32 x };
 
     ghost typed = { λ x. refl };
 
-    fn ptype() -> PType {
-        PType::I32
-    }
+    const PTYPE: PType = PType::I32;
 
     fn value(self) -> Value {
         Value::I32(self)
-    }
-
-    fn is_nan(self) -> bool {
-        false
     }
 }
 
@@ -231,22 +192,16 @@ impl SignedPType for i32 {
 }
 
 impl NativePType for i64 {
-    ghost kind = { p.I64 };
+    ghost PTYPE = { p.I64 };
 
     ghost held = { λ x. v.I64 x };
 
     ghost typed = { λ x. refl };
 
-    fn ptype() -> PType {
-        PType::I64
-    }
+    const PTYPE: PType = PType::I64;
 
     fn value(self) -> Value {
         Value::I64(self)
-    }
-
-    fn is_nan(self) -> bool {
-        false
     }
 }
 
@@ -257,48 +212,36 @@ impl SignedPType for i64 {
 }
 
 impl NativePType for f32 {
-    ghost kind = { p.F32 };
+    ghost PTYPE = { p.F32 };
 
     ghost held = { λ x. v.F32 x };
 
     ghost typed = { λ x. refl };
 
-    fn ptype() -> PType {
-        PType::F32
-    }
+    const PTYPE: PType = PType::F32;
 
     fn value(self) -> Value {
         Value::F32(self)
-    }
-
-    fn is_nan(self) -> bool {
-        self.is_nan()
     }
 }
 
 impl FloatPType for f32 {
     fn widen(self) -> f64 {
-        f32_to_f64_with_nan(self)
+        f64::from(self)
     }
 }
 
 impl NativePType for f64 {
-    ghost kind = { p.F64 };
+    ghost PTYPE = { p.F64 };
 
     ghost held = { λ x. v.F64 x };
 
     ghost typed = { λ x. refl };
 
-    fn ptype() -> PType {
-        PType::F64
-    }
+    const PTYPE: PType = PType::F64;
 
     fn value(self) -> Value {
         Value::F64(self)
-    }
-
-    fn is_nan(self) -> bool {
-        self.is_nan()
     }
 }
 

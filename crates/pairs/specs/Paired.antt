@@ -1,26 +1,29 @@
 -- A pair keeps every law of an aggregate, since its halves do. Assumes nothing.
-use Rattle.std.specs.Prelude.{◌≡◌, true, ◌⊎◌, List, [], ◌∷◌, ◌++◌, Some, None, Option, Result, refl}
-use Rattle.std.proofs.Common.{sym, ap, ◌∙◌, inl, inr, ⊎_elim}
-use Rattle.std.proofs.Math.Path.{subst}
+use Rattle.std.specs.Prelude.{◌≡◌, Bool, true, ◌&&◌, ◌⊎◌, List, [], ◌∷◌, ◌++◌, Some, None, Option, refl, IsTrue, ◌↔◌}
+use Rattle.std.proofs.Common.{inl, inr, ⊎_elim}
 use Rattle.std.proofs.lemmas.List.{map-append}
 use Rattle.std.proofs.lemmas.Bool.{and_parts, and_from}
+use Rattle.std.proofs.lemmas.Bool.Decides.{Decides-like, Decides-and}
 use Rattle.dtype.specs.declared.ptype.DType.{DType}
-use Rattle.dtype.specs.declared.refusal.Refusal.{Refusal}
 use Rattle.dtype.specs.declared.statistics.Statistics.{Statistics}
 use Rattle.columns.specs.Columns.{Meaning, Proper}
 use Rattle.column_sums.specs.Lots.{Lot, column_lots}
 use Rattle.column_sums.specs.Records.{Truthful}
-use Rattle.aggregates.specs.Sheets.{lot, Sheet, lots, Reordered, same, keep, swap, then}
+use Rattle.aggregates.specs.Sheets.{Sheet, lots, Reordered, same, keep, swap, then}
 use Rattle.aggregates.specs.Model.{Model, Lawful, Holds, Accepted, ReadsAgain, column_step, straight}
 use Rattle.accumulators.specs.declared.accumulator.Accumulator.{Accumulator}
 use Rattle.accumulators.specs.Accumulators.{Ran, Fits, unused, accumulated, merged_into, saturated_now}
 use Rattle.accumulators.proofs.Accumulating.{Added, gains_twice, fits_unused, fits_taken, fits_stays, fits_joins, adds_column, fits_reordered, fits_belongs, accumulators_saturate, read_again}
 use Rattle.pairs.specs.declared.options.PairOptions.{PairOptions}
-use Rattle.pairs.specs.Pairs.{item_of, sheet_of, right_batch, pair_batch, pair_model}
+use Rattle.pairs.specs.Pairs.{item_of, sheet_of, pair_batch, pair_model}
+
+-- `==` of the options says whether they are equal, since that of each half's does
+pub pair_told_apart : {L R : Type 0} (l : L → L → Bool) (r : R → R → Bool) → ((a b : L) → IsTrue (l a b) ↔ (a ≡ b)) → ((a b : R) → IsTrue (r a b) ↔ (a ≡ b)) → (a b : PairOptions L R) → IsTrue (l a.0 b.0 && r a.1 b.1) ↔ (a ≡ b)
+pair_told_apart l r f g a b = Decides-like _ (λ h i. (h.0 i, h.1 i)) (λ e. (λ i. (e i).0, λ i. (e i).1)) (Decides-and _ _ (f a.0 b.0) (g a.1 b.1))
 
 sheet_lots : {S T : Type 0} (f : S → T) (ls : List Lot) → sheet_of f (lots ls) ≡ lots ls
 sheet_lots f [] = refl
-sheet_lots {S} {T} f (l ∷ ls) = ap (λ (x : Sheet T). lot l ∷ x) (sheet_lots f ls)
+sheet_lots f (l ∷ ls) = rw (sheet_lots f ls)
 
 sheet_reordered : {S T : Type 0} (f : S → T) {s t : Sheet S} → Reordered s t → Reordered (sheet_of f s) (sheet_of f t)
 sheet_reordered f same = same
@@ -29,18 +32,18 @@ sheet_reordered f (swap x y) = swap (item_of f x) (item_of f y)
 sheet_reordered f (then r q) = then (sheet_reordered f r) (sheet_reordered f q)
 
 sheet_more : {S T : Type 0} (f : S → T) (s : Sheet S) (ls : List Lot) → sheet_of f (s ++ lots ls) ≡ sheet_of f s ++ lots ls
-sheet_more {S} {T} f s ls = map-append (item_of f) s (lots ls) ∙ ap (λ (x : Sheet T). sheet_of f s ++ x) (sheet_lots f ls)
+sheet_more f s ls = rw (map-append (item_of f) s (lots ls), sheet_lots f ls)
 
 -- one half, over its own sheet
 module _ {V O P S A T : Type 0} (m : Model O P S A) (laws : Lawful m) (f : T → S) where
   half_stays : (o : O) (d : DType) (s : Sheet T) (a : Accumulator V O P S A) (ls : List Lot) → saturated_now m a ≡ true → Fits m o d (sheet_of f s) a → Fits m o d (sheet_of f (s ++ lots ls)) a
-  half_stays o d s a ls h x = subst (λ (z : Sheet S). Fits m o d z a) (sym (sheet_more f s ls)) (fits_stays m laws o d (sheet_of f s) a ls h x)
+  half_stays o d s a ls h x = rw (sheet_more f s ls) (fits_stays m laws o d (sheet_of f s) a ls h x)
 
   half_joins : (o : O) (d : DType) (s t : Sheet T) (a b : Accumulator V O P S A) → Fits m o d (sheet_of f s) a → Fits m o d (sheet_of f t) b → Fits m o d (sheet_of f (s ++ t)) (merged_into m a b.partial)
-  half_joins o d s t a b x y = subst (λ (z : Sheet S). Fits m o d z (merged_into m a b.partial)) (sym (map-append (item_of f) s t)) (fits_joins m laws o d (sheet_of f s) (sheet_of f t) a b x y)
+  half_joins o d s t a b x y = rw (map-append (item_of f) s t) (fits_joins m laws o d (sheet_of f s) (sheet_of f t) a b x y)
 
   half_adds : (o : O) (d : DType) (c : Meaning) (k : Statistics) (s : Sheet T) (r : Ran (Accumulator V O P S A)) → Added m o d c k (sheet_of f s) r → Fits m o d (sheet_of f (s ++ lots (column_lots c))) r.after
-  half_adds o d c k s r h = subst (λ (z : Sheet S). Fits m o d z r.after) (sym (sheet_more f s (column_lots c))) h.fits
+  half_adds o d c k s r h = rw (sheet_more f s (column_lots c)) h.fits
 
 module _ {L LO LP LS LA R RO RP RS Ra A : Type 0} (l : Model LO LP LS LA) (r : Model RO RP RS Ra) (answers : LA → Ra → A) (ll : Lawful l) (rl : Lawful r) where
   abbrev pair_of_halves : Model (PairOptions LO RO) (Accumulator L LO LP LS LA × Accumulator R RO RP RS Ra) (LS × RS) A
@@ -53,7 +56,7 @@ module _ {L LO LP LS LA R RO RP RS Ra A : Type 0} (l : Model LO LP LS LA) (r : M
   both_add o d c k s a b e good h f g =
       let x = adds_column l ll o.0 d c k (sheet_of (λ x. x.0) s) a e good h f in
       let y = adds_column r rl o.1 d c (accumulated l c k a).stats (sheet_of (λ x. x.1) s) b e good x.truthful g in
-      subst (λ (z : Result (Unit {0}) Refusal). Accepted pair_of_halves o d c k s (straight pair_of_halves o d (right_batch (λ k'. accumulated r c k' b) (accumulated l c k a) z b))) (sym x.answered)
+      rw x.answered
       (record {
         answered = y.answered;
         truthful = y.truthful;
@@ -65,7 +68,7 @@ module _ {L LO LP LS LA R RO RP RS Ra A : Type 0} (l : Model LO LP LS LA) (r : M
 
   adds : (o : PairOptions LO RO) (d : DType) (c : Meaning) (k : Statistics) (s : Sheet (LS × RS)) (p : Option (Accumulator L LO LP LS LA × Accumulator R RO RP RS Ra)) → c.dtype ≡ d → Proper c → Truthful c k → Holds pair_of_halves o d s p → Accepted pair_of_halves o d c k s (column_step pair_of_halves o d c k p)
   adds o d c k s None e good h a =
-      subst (λ (z : Sheet (LS × RS)). Accepted pair_of_halves o d c k z (column_step pair_of_halves o d c k None)) (sym a)
+      rw a
       (both_add o d c k [] (unused o.0 d) (unused o.1 d) e good h (fits_unused l ll o.0 d) (fits_unused r rl o.1 d))
   adds o d c k s (Some p) e good h a = both_add o d c k s p.0 p.1 e good h a.0 a.1
 

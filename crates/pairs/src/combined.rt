@@ -1,14 +1,15 @@
 ghost use Rattle.std.specs.Prelude.{◌≡◌};
-ghost use Rattle.pairs.specs.Pairs.{pair_model, pair_batch};
-ghost use Rattle.pairs.specs.Paired.{pair_lawful};
+ghost use Rattle.pairs.specs.Pairs.{pair_model};
+ghost use Rattle.pairs.specs.Paired.{pair_lawful, pair_told_apart};
 
 use crate::options::PairOptions;
 use accumulators::Accumulator;
-use aggregates::{AggregateColumns, AggregateFn, AggregateQuestions};
+use aggregates::AggregateFn;
 use columns::Column;
 use dtype::{DType, Refusal, Scalar, Statistics};
 
-// How a pair makes its answer of those of its halves.
+// How a pair makes its answer of those of its halves. A trait and not a closure: the pair is a type, whose answer is a type
+// of its own and whose laws name `answers`.
 pub trait CombineAnswers<L, R> {
     type Answer: Drop;
 
@@ -18,7 +19,8 @@ pub trait CombineAnswers<L, R> {
         ensures { result ≡ answers left right };
 }
 
-// Two aggregates side by side. A column goes to both, and the answers of both make the pair's.
+// Two aggregates side by side. A column goes to both, and the answers of both make the pair's. The name is the source's; no
+// value is made, as none of `Sum` is, and the fields only name the parts.
 pub struct Combined<L, R, F> {
     pub left: L,
     pub right: R,
@@ -39,29 +41,21 @@ impl<L: AggregateFn, R: AggregateFn, F: CombineAnswers<L::Answer, R::Answer>> Ag
 
     ghost lawful = { pair_lawful L.AggregateFn.model R.AggregateFn.model F.CombineAnswers.answers L.AggregateFn.lawful R.AggregateFn.lawful };
 
-    fn same_options(
-        first: PairOptions<L::Options, R::Options>,
-        second: PairOptions<L::Options, R::Options>,
-    ) -> bool {
-        L::same_options(first.0, second.0) && R::same_options(first.1, second.1)
-    }
+    ghost options_are_told_apart = { pair_told_apart L.Options.eq R.Options.eq L.options_are_told_apart R.options_are_told_apart };
 
-    fn empty_partial(
-        options: PairOptions<L::Options, R::Options>,
-        dtype: DType,
-    ) -> (Accumulator<L>, Accumulator<R>) {
+    fn empty_partial(options: Self::Options, dtype: DType) -> Self::Partial {
         (
-            Accumulator::<L>::new(options.0, dtype),
-            Accumulator::<R>::new(options.1, dtype),
+            Accumulator::new(options.0, dtype),
+            Accumulator::new(options.1, dtype),
         )
     }
 
     fn merge_partials(
-        _options: PairOptions<L::Options, R::Options>,
+        _options: Self::Options,
         _dtype: DType,
-        first: (Accumulator<L>, Accumulator<R>),
-        second: (Accumulator<L>, Accumulator<R>),
-    ) -> (Accumulator<L>, Accumulator<R>) {
+        first: Self::Partial,
+        second: Self::Partial,
+    ) -> Self::Partial {
         let (mut left, mut right) = first;
         let (mut other_left, mut other_right) = second;
         left.fold_taken(other_left.take_partial());
@@ -70,103 +64,71 @@ impl<L: AggregateFn, R: AggregateFn, F: CombineAnswers<L::Answer, R::Answer>> Ag
     }
 
     // Both dtypes are checked before either scalar is taken in.
-    fn takes_scalar(
-        options: PairOptions<L::Options, R::Options>,
-        dtype: DType,
-        scalar: (L::PartialScalar, R::PartialScalar),
-    ) -> bool {
+    fn takes_scalar(options: Self::Options, dtype: DType, scalar: Self::PartialScalar) -> bool {
         L::takes_scalar(options.0, dtype, scalar.0) && R::takes_scalar(options.1, dtype, scalar.1)
     }
 
     fn partial_from_scalar(
-        options: PairOptions<L::Options, R::Options>,
+        options: Self::Options,
         dtype: DType,
-        scalar: (L::PartialScalar, R::PartialScalar),
-    ) -> (Accumulator<L>, Accumulator<R>) {
-        let mut left = Accumulator::<L>::new(options.0, dtype);
-        let mut right = Accumulator::<R>::new(options.1, dtype);
+        scalar: Self::PartialScalar,
+    ) -> Self::Partial {
+        let mut left = Accumulator::new(options.0, dtype);
+        let mut right = Accumulator::new(options.1, dtype);
         left.fold_partial(L::partial_from_scalar(options.0, dtype, scalar.0));
         right.fold_partial(R::partial_from_scalar(options.1, dtype, scalar.1));
         (left, right)
     }
 
-    fn caches_sum(_options: PairOptions<L::Options, R::Options>, _dtype: DType) -> bool {
+    fn caches_sum(_options: Self::Options, _dtype: DType) -> bool {
         false
     }
 
     fn partial_from_sum(
-        _options: PairOptions<L::Options, R::Options>,
+        _options: Self::Options,
         _dtype: DType,
         _sum: Scalar,
-    ) -> Option<(Accumulator<L>, Accumulator<R>)> {
+    ) -> Option<Self::Partial> {
         None
     }
-}
 
-impl<
-    L: AggregateQuestions,
-    R: AggregateQuestions,
-    F: CombineAnswers<L::Answer, R::Answer>,
-> AggregateQuestions for Combined<L, R, F> {
     fn partial_scalar(
-        _options: PairOptions<L::Options, R::Options>,
+        _options: Self::Options,
         _dtype: DType,
-        partial: &(Accumulator<L>, Accumulator<R>),
-    ) -> (L::PartialScalar, R::PartialScalar) {
+        partial: &Self::Partial,
+    ) -> Self::PartialScalar {
         (partial.0.partial_scalar(), partial.1.partial_scalar())
     }
 
     fn final_scalar(
-        _options: PairOptions<L::Options, R::Options>,
+        _options: Self::Options,
         _dtype: DType,
-        partial: &(Accumulator<L>, Accumulator<R>),
-    ) -> F::Answer {
+        partial: &Self::Partial,
+    ) -> Self::Answer {
         F::combine(partial.0.final_scalar(), partial.1.final_scalar())
     }
 
-    fn is_saturated(
-        _options: PairOptions<L::Options, R::Options>,
-        _dtype: DType,
-        partial: &(Accumulator<L>, Accumulator<R>),
-    ) -> bool {
+    fn is_saturated(_options: Self::Options, _dtype: DType, partial: &Self::Partial) -> bool {
         partial.0.is_saturated() && partial.1.is_saturated()
     }
 
     fn write_sum(
-        _options: PairOptions<L::Options, R::Options>,
+        _options: Self::Options,
         _dtype: DType,
-        _partial: &(Accumulator<L>, Accumulator<R>),
+        _partial: &Self::Partial,
         _stats: &mut Statistics,
     ) {}
-}
 
-// The column goes to the left half and, unless refused there, to the right one, with the record as the left half left it.
-fn accumulate_halves<L: AggregateColumns, R: AggregateColumns, C: Column>(
-    left: &mut Accumulator<L>,
-    right: &mut Accumulator<R>,
-    column: &C,
-    stats: &mut Statistics,
-) -> Result<(), Refusal>
-    ensures { pair_batch L.AggregateFn.model R.AggregateFn.model (C.Column.meaning column.now) stats.old left.old right.old ≡ record { answer = result; stats = stats.new; partial = (left.new, right.new) } }
-{
-    match left.accumulate(column, stats) {
-        Ok(()) => right.accumulate(column, stats),
-        Err(refusal) => Err(refusal),
-    }
-}
-
-impl<
-    L: AggregateColumns,
-    R: AggregateColumns,
-    F: CombineAnswers<L::Answer, R::Answer>,
-> AggregateColumns for Combined<L, R, F> {
+    // The column goes to the left half and, unless refused there, to the right one, with the record as the left half left it.
+    #[tactic(auto, unfolding(crate::specs::Pairs::pair_batch))]
     fn accumulate<C: Column>(
-        _options: PairOptions<L::Options, R::Options>,
+        _options: Self::Options,
         _dtype: DType,
         column: &C,
         stats: &mut Statistics,
-        partial: &mut (Accumulator<L>, Accumulator<R>),
+        partial: &mut Self::Partial,
     ) -> Result<(), Refusal> {
-        accumulate_halves(&mut partial.0, &mut partial.1, column, stats)
+        partial.0.accumulate(column, stats)?;
+        partial.1.accumulate(column, stats)
     }
 }

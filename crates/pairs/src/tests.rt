@@ -1,7 +1,7 @@
 use crate::options::PairOptions;
 use crate::reported::Both;
 use accumulators::Accumulator;
-use aggregates::{AggregateColumns, AggregateQuestions, Count, NumericalAggregateOpts, Sum};
+use aggregates::{AggregateFn, Count, NumericalAggregateOpts, Sum};
 use columns::Constant;
 use dtype::{DType, PType, Precision, Refusal, Scalar, Statistics, Value};
 use std::test::Fail;
@@ -35,9 +35,12 @@ fn cached(stats: Statistics) -> Option<Value> {
 
 #[test]
 fn saturation_comes_before_the_dtype(rt: HostRuntime) -> Result<(), Fail> {
-    let mut stats = Statistics::try_new(Precision::Absent, Precision::Absent)?;
+    let mut stats = Statistics::default();
     let mut sum = Accumulator::<Sum>::new(SKIP, plain(PType::I64));
-    assert!(rt; sum.accumulate(&one(Value::U8(1)), &mut stats) == Err(Refusal::ColumnDType));
+    assert_eq!(rt;
+        sum.accumulate(&one(Value::U8(1)), &mut stats),
+        Err(Refusal::ColumnDType)
+    );
     assert!(rt; sum.take_partial().is_none() && cached(stats).is_none());
     sum.combine_partials(Scalar::null(PType::I64))?;
     sum.accumulate(&one(Value::U8(1)), &mut stats)?;
@@ -47,21 +50,28 @@ fn saturation_comes_before_the_dtype(rt: HostRuntime) -> Result<(), Fail> {
 
 #[test]
 fn a_column_is_summed_by_itself_and_cached(rt: HostRuntime) -> Result<(), Fail> {
-    let mut stats = Statistics::try_new(Precision::Absent, Precision::Absent)?;
+    let mut stats = Statistics::default();
     let mut sum = Accumulator::<Sum>::new(SKIP, plain(PType::I64));
     sum.accumulate(&one(Value::I64(-5)), &mut stats)?;
-    assert!(rt; cached(stats) == Some(Value::I64(-5)));
+    assert_eq!(rt; cached(stats), Some(Value::I64(-5)));
     // now the cached sum is added, whatever the column holds
     sum.accumulate(&one(Value::I64(7)), &mut stats)?;
-    assert!(rt; sum.final_scalar().value() == Some(Value::I64(-10)));
+    assert_eq!(rt; sum.final_scalar().value(), Some(Value::I64(-10)));
     let wrong = Scalar::primitive(Value::U64(1), false);
     let mut other = Statistics::try_new(Precision::Exact(wrong), Precision::Exact(0))?;
-    assert!(rt; sum.accumulate(&one(Value::I64(7)), &mut other) == Err(Refusal::CachedSumType));
-    assert!(rt; sum.final_scalar().value() == Some(Value::I64(-10)));
+    assert_eq!(rt;
+        sum.accumulate(&one(Value::I64(7)), &mut other),
+        Err(Refusal::CachedSumType)
+    );
+    assert_eq!(rt; sum.final_scalar().value(), Some(Value::I64(-10)));
     // a sum that keeps NaNs puts an empty partial first, and leaves it when refused
     let mut kept = Accumulator::<Sum>::new(KEEP, plain(PType::F64));
-    assert!(rt; kept.accumulate(&one(Value::F64(1.0)), &mut other) == Err(Refusal::CachedSumType));
-    assert!(rt; kept.take_partial().is_some() && cached(other) == Some(Value::U64(1)));
+    assert_eq!(rt;
+        kept.accumulate(&one(Value::F64(1.0)), &mut other),
+        Err(Refusal::CachedSumType)
+    );
+    assert!(rt; kept.take_partial().is_some());
+    assert_eq!(rt; cached(other), Some(Value::U64(1)));
     Ok(())
 }
 
@@ -72,9 +82,10 @@ fn a_pair_of_a_pair(rt: HostRuntime) -> Result<(), Fail> {
     let mut pair = Accumulator::<Both<Both<Sum, Count>, Sum>>::new(options, plain(PType::F64));
     let mut stats = Statistics::try_new(Precision::Absent, Precision::Exact(0))?;
     pair.accumulate(&one(Value::F64(1.5)), &mut stats)?;
-    assert!(rt; cached(stats) == Some(Value::F64(1.5)));
+    assert_eq!(rt; cached(stats), Some(Value::F64(1.5)));
     let ((sum, count), kept) = pair.final_scalar();
-    assert!(rt; sum.value() == Some(Value::F64(1.5)) && kept.value() == Some(Value::F64(1.5)));
-    assert!(rt; count.value() == Some(Value::U64(1)));
+    assert_eq!(rt; sum.value(), Some(Value::F64(1.5)));
+    assert_eq!(rt; kept.value(), Some(Value::F64(1.5)));
+    assert_eq!(rt; count.value(), Some(Value::U64(1)));
     Ok(())
 }

@@ -1,3 +1,2 @@
 pub mod NewBoardReads
-pub mod PlainTotals
-pub mod Reporting
+pub mod SiteReading

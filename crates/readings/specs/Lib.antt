@@ -1,3 +1,5 @@
 pub mod NewBoards
+pub mod PlainTotals
+pub mod Reporting
 pub mod Reports
 pub mod Totals

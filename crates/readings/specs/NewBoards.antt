@@ -38,6 +38,14 @@ HandedInTruth {C} {O} {P} {S} {A} V m mean n o d page recs = PageTruthful {V = V
 abbrev pub EveryCall : {C O P S A : Type 0} → Type 0 → Model O P S A → (C → Meaning) → ℕ → O → DType → List (Line C S A) → List Statistics → Type 0
 EveryCall V m mean n o d page recs = PageKept {V = V} m mean o d page recs (new_row n o d) (replicate (site_count n) [])
 
+-- What was called and read: the answer, each line of the page with its answer, and the table of records are those of the calls
+-- on a new board, and every call keeps the law.
+pub record CalledAndRead {C O P S A : Type 0} (V : Type 0) (m : Model O P S A) (mean : C → Meaning) (n : ℕ) (o : O) (d : DType) (lines : List (Line C S A)) (recs : List Statistics) (lines' : List (Line C S A)) (recs' : List Statistics) (i : ℕ) (r : Result A Refusal) : Type 0 where
+  pub answer : r ≡ answer_after V m mean n o d lines recs i
+  pub page : lines' ≡ (on_new_board V m mean n o d lines recs).page
+  pub records : recs' ≡ (on_new_board V m mean n o d lines recs).records
+  pub each : EveryCall V m mean n o d lines recs
+
 -- The site is there and its answer has a property of its sheet, or it is refused since no such site is there.
 abbrev pub SiteReads : {X S : Type 0} → (Sheet S → X → Type 0) → ℕ → ℕ → Sheet S → Result X Refusal → Type 0
 SiteReads F n i s r = MatchResult r (λ x. (i < site_count n) × F s x) (λ e. (e ≡ NoSuchSite) × (site_count n ≤ i))

@@ -1,14 +1,14 @@
 ghost use Rattle.std.specs.Prelude.{◌≡◌, length};
-ghost use Rattle.readings.specs.NewBoards.{on_new_board, answer_after, EveryCall, AnswerAllowed};
+ghost use Rattle.readings.specs.NewBoards.{CalledAndRead, AnswerAllowed};
 
 use accumulators::{Accumulator, Board};
-use aggregates::AggregateColumns;
+use aggregates::AggregateFn;
 use columns::Column;
 use dtype::{DType, Refusal, Statistics};
 use runs::{Line, run};
 
 // Makes a new board of the row, makes the calls of the page on it, and reads a site by its final answer.
-pub fn read_after<V: AggregateColumns, C: Column>(
+pub fn read_after<V: AggregateFn, C: Column>(
     row: &mut [Accumulator<V>],
     options: V::Options,
     dtype: DType,
@@ -16,10 +16,7 @@ pub fn read_after<V: AggregateColumns, C: Column>(
     records: &mut [Statistics],
     site: usize,
 ) -> Result<V::Answer, Refusal>
-    ensures answer { result ≡ answer_after V V.AggregateFn.model C.Column.meaning (length row.old) options dtype page.old records.old site }
-    ensures page { page.new ≡ (on_new_board V V.AggregateFn.model C.Column.meaning (length row.old) options dtype page.old records.old).page }
-    ensures records { records.new ≡ (on_new_board V V.AggregateFn.model C.Column.meaning (length row.old) options dtype page.old records.old).records }
-    ensures each { EveryCall V V.AggregateFn.model C.Column.meaning (length row.old) options dtype page.old records.old }
+    ensures calls { CalledAndRead V V.AggregateFn.model C.Column.meaning (length row.old) options dtype page.old records.old page.new records.new site result }
     ensures reads { AnswerAllowed V V.AggregateFn.model C.Column.meaning (length row.old) options dtype page.old records.old page.new site result }
 {
     let mut board = Board::new(row, options, dtype);

@@ -2,9 +2,9 @@
 #![tactic(auto)]
 
 mod after;
-mod reported;
+#[cfg(test)]
+mod tests;
 mod totals;
 
 pub use after::read_after;
-pub use reported::reported_after;
-pub use totals::{count_after, sum_after};
+pub use totals::{PlainTotals, total_after};

@@ -1,7 +1,9 @@
 use dtype::Refusal;
 
 // A call on a board. Columns are of any kind C, and partial scalars of the aggregate's type S. A record stands in a table
-// and is named by its place there; a place past the table's end hands in a record that says nothing.
+// and is named by its place there, since several calls may hand in one record; a place past the table's end hands in a
+// record that says nothing. A list of calls is a value that the law speaks of, so it is not a list of closures.
+#[derive(Drop)]
 pub enum Call<C, S> {
     Accumulate {
         site: usize,
@@ -36,6 +38,7 @@ pub enum Outcome<S, A> {
 }
 
 // A line of a list of calls: the call, and its answer once it was made.
+#[derive(Drop)]
 pub struct Line<C, S, A> {
     pub call: Call<C, S>,
     pub answer: Option<Result<Outcome<S, A>, Refusal>>,

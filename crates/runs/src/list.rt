@@ -5,19 +5,20 @@ ghost use Rattle.runs.specs.Laws.{EveryCallKeeps, SitesKeep};
 use crate::call::Line;
 use crate::one::perform;
 use accumulators::Board;
-use aggregates::AggregateColumns;
+use aggregates::AggregateFn;
 use columns::Column;
 use dtype::Statistics;
 
-// Makes the calls of a page in their order, whatever they answer, and writes each answer beside its call.
-pub fn run<V: AggregateColumns, C: Column>(
+// Makes the calls of a page in their order, whatever they answer, and writes each answer beside its call. The page and the
+// records are two slices of different lengths.
+pub fn run<V: AggregateFn, C: Column>(
     board: &mut Board<'_, V>,
     page: &mut [Line<C, V::PartialScalar, V::Answer>],
     records: &mut [Statistics],
 )
-    ensures exact { ran V.AggregateFn.model C.Column.meaning page.entry.now records.old board.old.sites.now ≡ record { page = page.exit.now; records = records.new; row = board.new.sites.now } }
-    ensures each { EveryCallKeeps V.AggregateFn.model C.Column.meaning page.old records.old board.old.sites.now }
-    ensures after { SitesKeep V.AggregateFn.model C.Column.meaning page.old records.old board.old.sites.now page.new board.new.sites.now }
+    ensures exact { ran V.AggregateFn.model C.Column.meaning page.old records.old board.old ≡ record { page = page.new; records = records.new; row = board.new } }
+    ensures each { EveryCallKeeps V.AggregateFn.model C.Column.meaning page.old records.old board.old }
+    ensures after { SitesKeep V.AggregateFn.model C.Column.meaning page.old records.old board.old page.new board.new }
 {
     for line in page.iter_mut() {
         let answer = perform(board, &line.call, records);

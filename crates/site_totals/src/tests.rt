@@ -1,6 +1,6 @@
 use crate::add::site_total;
 use crate::bitmap::bitmap_of;
-use crate::total::SiteRefusal;
+use crate::total::{SiteRefusal, SiteTotal};
 use dtype::Value;
 use std::test::Fail;
 
@@ -8,7 +8,7 @@ use std::test::Fail;
 fn bits_of_nine_readings(rt: HostRuntime) -> Result<(), Fail> {
     let x = Some(7u8);
     let bits = bitmap_of(rt.alloc(), &[x, None, x, x, None, None, None, x, x])?;
-    assert!(rt; bits.as_slice() == [141, 1].as_slice());
+    assert_eq!(rt; bits.as_slice(), [141, 1].as_slice());
     Ok(())
 }
 
@@ -20,28 +20,52 @@ fn past_the_end(rt: HostRuntime) -> Result<(), Fail> {
         true,
         true,
     )?;
-    assert!(rt; sum.readings == 3 && sum.blanks == 1 && sum.total.is_none());
+    assert_eq!(rt;
+        sum,
+        SiteTotal {
+            readings: 3,
+            blanks: 1,
+            total: None
+        }
+    );
     Ok(())
 }
 
 #[test]
 fn blank_refused(rt: HostRuntime) -> Result<(), Fail> {
     let sum = site_total(rt.alloc(), &[Some(200u8), Some(100)], false, true)?;
-    assert!(rt; sum.total == Some(Value::U64(300)));
-    assert!(rt;
-        matches!(
-            site_total(rt.alloc(), &[Some(200u8), None], false, true),
-            Err(SiteRefusal::Blank)
-        )
+    assert_eq!(rt;
+        sum,
+        SiteTotal {
+            readings: 2,
+            blanks: 0,
+            total: Some(Value::U64(300))
+        }
     );
+    let refused = site_total(rt.alloc(), &[Some(200u8), None], false, true);
+    assert_eq!(rt; refused, Err(SiteRefusal::Blank));
     Ok(())
 }
 
 #[test]
 fn blank_and_nought(rt: HostRuntime) -> Result<(), Fail> {
     let blank = site_total(rt.alloc(), &[None::<i64>], true, true)?;
-    assert!(rt; blank.blanks == 1 && blank.total.is_none());
+    assert_eq!(rt;
+        blank,
+        SiteTotal {
+            readings: 0,
+            blanks: 1,
+            total: None
+        }
+    );
     let nought = site_total(rt.alloc(), &[Some(0i64)], true, true)?;
-    assert!(rt; nought.total == Some(Value::I64(0)));
+    assert_eq!(rt;
+        nought,
+        SiteTotal {
+            readings: 1,
+            blanks: 0,
+            total: Some(Value::I64(0))
+        }
+    );
     Ok(())
 }

@@ -31,4 +31,5 @@ chunked_at k (x ∷ xs) h n =
 pub chunked_first : {X : Type 0} (k : ℕ) (xs c rest : List X) → 0 < k → 0 < length xs → xs ≡ c ++ rest → length c ≡ min k (length xs) → chunked k xs ≡ c ∷ chunked k rest
 chunked_first k xs c rest h n e l =
     let f = front k c rest (l ∙ ap (λ ys. min k (length ys)) e) in
-    chunked_at k xs h n ∙ ap (λ ys. take k ys ∷ chunked k (drop k ys)) e ∙ ap (λ a. a ∷ chunked k (drop k (c ++ rest))) f.0 ∙ ap (λ b. c ∷ chunked k b) f.1
+    let first = chunked_at k xs h n in
+    cc

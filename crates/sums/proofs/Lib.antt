@@ -1,7 +1,7 @@
 pub mod Chunks
-pub mod FloatSums
 pub mod NanBits
 pub mod Products
+pub mod Runs
 pub mod SignedTotals
 pub mod Steps
 pub mod UnsignedTotals

@@ -1,10 +1,9 @@
 -- A checked signed sum against the exact total. Assumes nothing.
-use Rattle.std.proofs.Common.{◌≡◌, ℕ, zero, suc, ◌+◌, ◌^◌, ◌<◌, ◌≤◌, Bool, true, false, cond, ◌⊎◌, List, [], ◌∷◌, ◌++◌, length, take, drop, ℤ, pos, negsuc, ◌+ℤ◌, neg_ℤ, ◌≤ℤ◌, Some, None, fold, sum_by, Option, sym, refl, ap, ◌∙◌, subst, inl, inr, arith, length-drop, take-append-drop, ltb-false, MatchOption}
-use lib.Signed.{mag}
+use Rattle.std.proofs.Common.{◌≡◌, ℕ, zero, suc, ◌+◌, ◌^◌, ◌<◌, ◌≤◌, Bool, true, false, ◌⊎◌, List, [], ◌∷◌, ◌++◌, length, take, drop, ℤ, pos, negsuc, ◌+ℤ◌, neg_ℤ, ◌≤ℤ◌, Some, None, fold, sum_by, Option, refl, ap, ◌∙◌, subst, inl, inr, arith, length-drop, take-append-drop, ltb-false, MatchOption}
 use Rattle.std.proofs.lemmas.List.Sums.{sum_by-cons, sum_by-append}
 use Rattle.std.proofs.lemmas.Int.{ints}
-use Rattle.sums.specs.Sums.{signed64, step, exact_total, checked_sum, chunked, cut, above, below, SignedTotal}
-use Rattle.sums.proofs.Steps.{none_stays}
+use Rattle.sums.specs.Sums.{signed64, checked, step, exact_total, checked_sum, chunked, cut, above, below, SignedTotal}
+use Rattle.std.proofs.lemmas.Bool.{cond_both}
 
 -- the start of an exact total moves out
 total_from : {X : Type 0} (f : X → ℤ) (a b : ℤ) (xs : List X) → fold (λ s x. s +ℤ f x) (a +ℤ b) xs ≡ a +ℤ fold (λ s x. s +ℤ f x) b xs
@@ -26,55 +25,76 @@ total-++ f (x ∷ xs) ys =
     let c = total_cons f x xs in
     omega (arith, ints)
 
-above_hi : (z : ℤ) → z ≤ℤ pos (above z)
+-- ---- an exact total lies between its negatives and its positives
+abbrev pub positives : {X : Type 0} → (X → ℤ) → List X → ℕ
+positives f xs = sum_by (λ x. above (f x)) xs
+
+abbrev pub negatives : {X : Type 0} → (X → ℤ) → List X → ℕ
+negatives f xs = sum_by (λ x. below (f x)) xs
+
+pub above_hi : (z : ℤ) → z ≤ℤ pos (above z)
 above_hi (pos n) = omega (arith, ints)
 above_hi (negsuc n) = omega (arith, ints)
 
-below_lo : (z : ℤ) → neg_ℤ (pos (below z)) ≤ℤ z
+pub below_lo : (z : ℤ) → neg_ℤ (pos (below z)) ≤ℤ z
 below_lo (pos n) = omega (arith, ints)
 below_lo (negsuc n) = omega (arith, ints)
 
-far : (z : ℤ) (A B : ℕ) → 2 ^ 63 ≤ mag z → z ≤ℤ pos A → neg_ℤ (pos B) ≤ℤ z → (2 ^ 63 ≤ A) ⊎ (2 ^ 63 < B)
-far (pos n) A B h p q = inl (omega (arith, ints))
-far (negsuc n) A B h p q = inr (omega (arith, ints))
-
-cases_map : (o : Option ℤ) (P R : Type 0) (Q S : ℤ → Type 0) → (P → R) → ((t : ℤ) → Q t → S t) → MatchOption o P Q → MatchOption o R S
-cases_map None P R Q S f g h = f h
-cases_map (Some t) P R Q S f g h = g t h
-
--- steps g, each between -d and u
-module _ {Y : Type 0} (g : Y → ℤ) (u d : Y → ℕ) (hi : (y : Y) → g y ≤ℤ pos (u y)) (lo : (y : Y) → neg_ℤ (pos (d y)) ≤ℤ g y) where
-  abbrev Passed : ℕ → ℕ → List Y → Type 0
-  Passed A B ys = (2 ^ 63 ≤ A + sum_by u ys) ⊎ (2 ^ 63 < B + sum_by d ys)
-
-  more_passed : (A B : ℕ) (y : Y) (ys : List Y) → Passed (A + u y) (B + d y) ys → Passed A B (y ∷ ys)
-  more_passed A B y ys (inl h) = inl (omega (arith, sum_by-cons u y ys))
-  more_passed A B y ys (inr h) = inr (omega (arith, sum_by-cons d y ys))
-
-  far_passed : (A B : ℕ) (y : Y) (ys : List Y) → (2 ^ 63 ≤ A + u y) ⊎ (2 ^ 63 < B + d y) → Passed A B (y ∷ ys)
-  far_passed A B y ys (inl h) = inl (omega (arith, sum_by-cons u y ys))
-  far_passed A B y ys (inr h) = inr (omega (arith, sum_by-cons d y ys))
-
-  steps_total : (a : ℤ) (A B : ℕ) (ys : List Y) → a ≤ℤ pos A → neg_ℤ (pos B) ≤ℤ a → MatchOption (fold (λ s y. step signed64 s (g y)) (Some a) ys) (Passed A B ys) (λ t. t ≡ a +ℤ exact_total signed64 g ys)
-  steps_total a A B [] p q = omega (arith, ints)
-  steps_total a A B (y ∷ ys) p q =
-      let z = a +ℤ g y in
-      let top : z ≤ℤ pos (A + u y) = omega (arith, ints, hi y) in
-      let bottom : neg_ℤ (pos (B + d y)) ≤ℤ z = omega (arith, ints, lo y) in
-      let go : (b : Bool) → signed64.fits z ≡ b → MatchOption (fold (λ s x. step signed64 s (g x)) (cond b (Some z) None) ys) (Passed A B (y ∷ ys)) (λ t. t ≡ a +ℤ exact_total signed64 g (y ∷ ys)) =
-      λ b. elim b as (λ b. signed64.fits z ≡ b → MatchOption (fold (λ s x. step signed64 s (g x)) (cond b (Some z) None) ys) (Passed A B (y ∷ ys)) (λ t. t ≡ a +ℤ exact_total signed64 g (y ∷ ys))) [
-        | true ↦ λ e. cases_map (fold (λ s x. step signed64 s (g x)) (Some z) ys) (Passed (A + u y) (B + d y) ys) (Passed A B (y ∷ ys)) (λ t. t ≡ z +ℤ exact_total signed64 g ys) (λ t. t ≡ a +ℤ exact_total signed64 g (y ∷ ys)) (more_passed A B y ys) (λ t h. let c = total_cons g y ys in omega (arith, ints)) (steps_total z (A + u y) (B + d y) ys top bottom)
-        | false ↦ λ e. subst (λ o. MatchOption o (Passed A B (y ∷ ys)) (λ t. t ≡ a +ℤ exact_total signed64 g (y ∷ ys))) (sym (none_stays signed64 g ys)) (far_passed A B y ys (far z (A + u y) (B + d y) (ltb-false (mag z) (2 ^ 63) e) top bottom))
-      ] in
-      go (signed64.fits z) refl
-
-total_hi : {X : Type 0} (f : X → ℤ) (xs : List X) → exact_total signed64 f xs ≤ℤ pos (sum_by (λ x. above (f x)) xs)
+pub total_hi : {X : Type 0} (f : X → ℤ) (xs : List X) → exact_total signed64 f xs ≤ℤ pos (positives f xs)
 total_hi f [] = omega (arith, ints)
 total_hi f (x ∷ xs) = omega (arith, ints, total_cons f x xs, total_hi f xs, above_hi (f x), sum_by-cons (λ y. above (f y)) x xs)
 
-total_lo : {X : Type 0} (f : X → ℤ) (xs : List X) → neg_ℤ (pos (sum_by (λ x. below (f x)) xs)) ≤ℤ exact_total signed64 f xs
+pub total_lo : {X : Type 0} (f : X → ℤ) (xs : List X) → neg_ℤ (pos (negatives f xs)) ≤ℤ exact_total signed64 f xs
 total_lo f [] = omega (arith, ints)
 total_lo f (x ∷ xs) = omega (arith, ints, total_cons f x xs, total_lo f xs, below_lo (f x), sum_by-cons (λ y. below (f y)) x xs)
+
+-- ---- a running sum against the exact total z, where the positives are A and the negatives B
+abbrev pub Passed : ℕ → ℕ → Type 0
+Passed A B = (2 ^ 63 ≤ A) ⊎ (2 ^ 63 < B)
+
+-- none only where a limit was passed, and else the total, which fits
+abbrev pub Out : ℕ → ℕ → ℤ → Option ℤ → Type 0
+Out A B z o = MatchOption o (Passed A B) (λ t. (t ≡ z) × (signed64.fits t ≡ true))
+
+pub record In (A B : ℕ) (z : ℤ) (o : Option ℤ) : Type 0 where
+  pub hi : z ≤ℤ pos A
+  pub lo : neg_ℤ (pos B) ≤ℤ z
+  pub out : Out A B z o
+
+pub move_in : (A A' B B' : ℕ) (z z' : ℤ) (o : Option ℤ) → A ≡ A' → B ≡ B' → z ≡ z' → In A B z o → In A' B' z' o
+move_in A A' B B' z z' o a b e h = subst (λ (n : ℕ). In n B' z' o) a (subst (λ (n : ℕ). In A n z' o) b (subst (λ (y : ℤ). In A B y o) e h))
+
+pub passed_more : (A A' B B' : ℕ) → A ≤ A' → B ≤ B' → Passed A B → Passed A' B'
+passed_more A A' B B' a b (inl h) = inl (omega arith)
+passed_more A A' B B' a b (inr h) = inr (omega arith)
+
+pub far_passed : (z : ℤ) (A B : ℕ) → z ≤ℤ pos A → neg_ℤ (pos B) ≤ℤ z → signed64.fits z ≡ false → Passed A B
+far_passed (pos n) A B p q e = let h = ltb-false n (2 ^ 63) e in inl (omega (arith, ints))
+far_passed (negsuc n) A B p q e = let h = ltb-false n (2 ^ 63) e in inr (omega (arith, ints))
+
+-- a number by itself, checked
+pub checked_out : (A B : ℕ) (z : ℤ) → z ≤ℤ pos A → neg_ℤ (pos B) ≤ℤ z → Out A B z (checked signed64 z)
+checked_out A B z p q = cond_both (signed64.fits z) (Some z) None (Out A B z) (λ e. (refl, e)) (far_passed z A B p q)
+
+step_out : (A B u d : ℕ) (z g : ℤ) (o : Option ℤ) → (z +ℤ g) ≤ℤ pos (A + u) → neg_ℤ (pos (B + d)) ≤ℤ (z +ℤ g) → Out A B z o → Out (A + u) (B + d) (z +ℤ g) (step signed64 o g)
+step_out A B u d z g None p q h = passed_more A (A + u) B (B + d) (omega arith) (omega arith) h
+step_out A B u d z g (Some t) p q h = rw h.0 (checked_out (A + u) (B + d) (z +ℤ g) p q)
+
+-- one checked addition of g, which lies between -d and u
+pub step_in : (A B u d : ℕ) (z g : ℤ) (o : Option ℤ) → g ≤ℤ pos u → neg_ℤ (pos d) ≤ℤ g → In A B z o → In (A + u) (B + d) (z +ℤ g) (step signed64 o g)
+step_in A B u d z g o p q h =
+    let top : (z +ℤ g) ≤ℤ pos (A + u) = omega (arith, ints, h.hi) in
+    let bottom : neg_ℤ (pos (B + d)) ≤ℤ (z +ℤ g) = omega (arith, ints, h.lo) in
+    record { hi = top; lo = bottom; out = step_out A B u d z g o top bottom h.out }
+
+-- steps g, each between -d and u
+steps_in : {Y : Type 0} (g : Y → ℤ) (u d : Y → ℕ) → ((y : Y) → g y ≤ℤ pos (u y)) → ((y : Y) → neg_ℤ (pos (d y)) ≤ℤ g y) → (A B : ℕ) (z : ℤ) (o : Option ℤ) (ys : List Y)
+    → In A B z o → In (A + sum_by u ys) (B + sum_by d ys) (z +ℤ exact_total signed64 g ys) (fold (λ s y. step signed64 s (g y)) o ys)
+steps_in g u d hi lo A B z o [] h = move_in A (A + 0) B (B + 0) z (z +ℤ pos 0) o (omega arith) (omega arith) (omega (arith, ints)) h
+steps_in g u d hi lo A B z o (y ∷ ys) h =
+    move_in (A + u y + sum_by u ys) (A + sum_by u (y ∷ ys)) (B + d y + sum_by d ys) (B + sum_by d (y ∷ ys)) ((z +ℤ g y) +ℤ exact_total signed64 g ys) (z +ℤ exact_total signed64 g (y ∷ ys)) _
+    (omega (arith, sum_by-cons u y ys)) (omega (arith, sum_by-cons d y ys)) (omega (arith, ints, total_cons g y ys))
+    (steps_in g u d hi lo (A + u y) (B + d y) (z +ℤ g y) (step signed64 o (g y)) ys (step_in A B (u y) (d y) z (g y) o (hi y) (lo y) h))
 
 pub cut_sum : {X : Type 0} (h : X → ℕ) (k fuel : ℕ) (xs : List X) → 0 < k → length xs ≤ fuel → sum_by (sum_by h) (cut k fuel xs) ≡ sum_by h xs
 cut_sum h k zero [] p l = refl
@@ -99,30 +119,34 @@ cut_total f k (suc fuel) (x ∷ xs) p l =
     let rest = cut_total f k fuel (drop k ys) p (omega arith) in
     let first = total_cons (exact_total signed64 f) (take k ys) (cut k fuel (drop k ys)) in
     let split = total-++ f (take k ys) (drop k ys) in
-    first ∙ ap (λ z. exact_total signed64 f (take k ys) +ℤ z) rest ∙ sym split ∙ ap (exact_total signed64 f) (take-append-drop k ys)
+    let whole = take-append-drop k ys in
+    cc
 
-pub signed_total_lem : {X : Type 0} (n : Bool) (f : X → ℤ) (acc : ℤ) (xs : List X) → SignedTotal f acc xs (checked_sum signed64 n f acc xs)
-signed_total_lem {X} false f acc xs =
-    steps_total f (λ x. above (f x)) (λ x. below (f x)) (λ x. above_hi (f x)) (λ x. below_lo (f x)) acc (above acc) (below acc) xs (above_hi acc) (below_lo acc)
-signed_total_lem {X} true f acc xs =
-    let up : X → ℕ = λ x. above (f x) in
-    let down : X → ℕ = λ x. below (f x) in
-    let cs = chunked 65536 xs in
-    let ups = cut_sum up 65536 (length xs) xs (omega arith) (omega arith) in
-    let downs = cut_sum down 65536 (length xs) xs (omega arith) (omega arith) in
-    let total = cut_total f 65536 (length xs) xs (omega arith) (omega arith) in
-    let raw = steps_total (exact_total signed64 f) (sum_by up) (sum_by down) (total_hi f) (total_lo f) acc (above acc) (below acc) cs (above_hi acc) (below_lo acc) in
-    subst (λ s. MatchOption (checked_sum signed64 true f acc xs) ((2 ^ 63 ≤ above acc + s) ⊎ (2 ^ 63 < below acc + sum_by down xs)) (λ t. t ≡ acc +ℤ exact_total signed64 f xs)) ups
-    (subst (λ s. MatchOption (checked_sum signed64 true f acc xs) ((2 ^ 63 ≤ above acc + sum_by (sum_by up) cs) ⊎ (2 ^ 63 < below acc + s)) (λ t. t ≡ acc +ℤ exact_total signed64 f xs)) downs
-    (subst (λ z. MatchOption (checked_sum signed64 true f acc xs) ((2 ^ 63 ≤ above acc + sum_by (sum_by up) cs) ⊎ (2 ^ 63 < below acc + sum_by (sum_by down) cs)) (λ t. t ≡ acc +ℤ z)) total raw))
+-- the values of a list added, one by one or by chunks
+pub sum_in : {X : Type 0} (small : Bool) (f : X → ℤ) (A B : ℕ) (z a : ℤ) (xs : List X) → In A B z (Some a) → In (A + positives f xs) (B + negatives f xs) (z +ℤ exact_total signed64 f xs) (checked_sum signed64 small f a xs)
+sum_in false f A B z a xs h = steps_in f (λ x. above (f x)) (λ x. below (f x)) (λ x. above_hi (f x)) (λ x. below_lo (f x)) A B z (Some a) xs h
+sum_in true f A B z a xs h =
+    let n = length xs in
+    move_in _ (A + positives f xs) _ (B + negatives f xs) _ (z +ℤ exact_total signed64 f xs) (checked_sum signed64 true f a xs)
+    (ap (λ m. A + m) (cut_sum (λ x. above (f x)) 65536 n xs (omega arith) (omega arith)))
+    (ap (λ m. B + m) (cut_sum (λ x. below (f x)) 65536 n xs (omega arith) (omega arith)))
+    (ap (λ y. z +ℤ y) (cut_total f 65536 n xs (omega arith) (omega arith)))
+    (steps_in (exact_total signed64 f) (positives f) (negatives f) (total_hi f) (total_lo f) A B z (Some a) (chunked 65536 xs) h)
+
+pub out_total : (A B : ℕ) (z : ℤ) (o : Option ℤ) → Out A B z o → MatchOption o (Passed A B) (λ t. t ≡ z)
+out_total A B z None h = h
+out_total A B z (Some t) h = h.0
+
+pub within : (a : ℤ) → signed64.fits a ≡ true → In (above a) (below a) a (Some a)
+within a h = record { hi = above_hi a; lo = below_lo a; out = (refl, h) }
 
 -- what the contract says of the answer
-pub signed_total_of : {X : Type 0} (n : Bool) (f : X → ℤ) (acc : ℤ) (xs : List X) (r : Option ℤ) → r ≡ checked_sum signed64 n f acc xs → SignedTotal f acc xs r
-signed_total_of n f acc xs r e = subst (SignedTotal f acc xs) (sym e) (signed_total_lem n f acc xs)
+pub signed_total_of : {X : Type 0} (n : Bool) (f : X → ℤ) (acc : ℤ) (xs : List X) (r : Option ℤ) → signed64.fits acc ≡ true → r ≡ checked_sum signed64 n f acc xs → SignedTotal f acc xs r
+signed_total_of n f acc xs r h e = rw e (out_total _ _ _ _ (sum_in n f (above acc) (below acc) acc acc xs (within acc h)).out)
 
 -- what one checked addition answered, at equal numbers
 pub step_answers : (a x y t u : ℤ) → x ≡ y → u ≡ t → Some t ≡ step signed64 (Some a) x → step signed64 (Some a) y ≡ Some u
-step_answers a x y t u xy ut h = sym (ap Some ut ∙ h ∙ ap (step signed64 (Some a)) xy)
+step_answers a x y t u xy ut h = cc
 
 pub step_refuses : (a x y : ℤ) → x ≡ y → None ≡ step signed64 (Some a) x → step signed64 (Some a) y ≡ None
-step_refuses a x y xy h = sym (h ∙ ap (step signed64 (Some a)) xy)
+step_refuses a x y xy h = cc

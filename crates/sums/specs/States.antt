@@ -1,9 +1,11 @@
 -- The state of a running sum, and the value that it reads. Assumes nothing.
-use Rattle.std.specs.Prelude.{ℕ, pos, Some, None, Option, from_bits, to_bits, Float}
+use Rattle.std.specs.Prelude.{◌≡◌, ℕ, pos, Some, None, Option, Result, MatchResult, from_bits, to_bits, Float}
 use Rattle.std.specs.Float.{binary64}
 use Rattle.std.specs.Option.{option_map}
 use Rattle.dtype.specs.declared.ptype.Family.{Family}
 use Rattle.dtype.specs.declared.ptype.Family.TheVariants as family
+use Rattle.dtype.specs.declared.refusal.Refusal.{Refusal}
+use Rattle.dtype.specs.declared.refusal.Refusal.TheVariants.{WrongValue}
 use Rattle.dtype.specs.declared.value.Value.{Value}
 use Rattle.dtype.specs.declared.value.Value.TheVariants as v
 use Rattle.sums.specs.declared.state.SumState.{SumState}
@@ -43,3 +45,7 @@ state_of (v.I32 z) = None
 state_of (v.I64 z) = option_map Signed (checked signed64 z)
 state_of (v.F32 x) = None
 state_of (v.F64 x) = Some (Floating (kept x))
+
+-- the state that a value stands for, or a refusal where it stands for none
+abbrev pub StandsFor : Value → Result SumState Refusal → Type 0
+StandsFor x r = MatchResult r (λ s. state_of x ≡ Some s) (λ e. (e ≡ WrongValue) × (state_of x ≡ None))

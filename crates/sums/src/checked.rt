@@ -1,7 +1,7 @@
 ghost use Rattle.std.specs.Prelude.{◌≡◌, ◌*◌, pos, ◌*ℤ◌, Some};
 ghost use Rattle.sums.specs.Sums.{unsigned64, signed64, checked, step};
 
-// One addition, or none where the result leaves 64 bits.
+// One addition, or none where the result leaves 64 bits: a test beforehand and no `checked_add`, by the limits of each type.
 pub fn checked_add_u64(acc: u64, x: u64) -> Option<u64>
     ensures { result ≡ step unsigned64 (Some acc) x }
 {
@@ -23,22 +23,18 @@ pub fn checked_add_i64(acc: i64, x: i64) -> Option<i64>
     if overflows { None } else { Some(acc + x) }
 }
 
-// A number n times, or none where the product leaves 64 bits.
+// A number n times, or none where the product leaves 64 bits. It is exact in 128 bits, and is tested before it is narrowed.
+// Two texts: each type has a 128-bit type of its own, and one generic text needs a trait with four conversions.
 pub fn checked_mul_u64(x: u64, n: u64) -> Option<u64>
     ensures { result ≡ checked unsigned64 (x * n) }
 {
-    if n != 0 && x > u64::MAX / n {
-        return None;
-    }
-    Some(x * n)
+    let product = u128::from(x) * u128::from(n);
+    u64::try_from(product).ok()
 }
 
 pub fn checked_mul_i64(x: i64, n: u64) -> Option<i64>
     ensures { result ≡ checked signed64 (x *ℤ pos n) }
 {
     let product = i128::from(x) * i128::from(n);
-    if product < i128::from(i64::MIN) || product > i128::from(i64::MAX) {
-        return None;
-    }
-    Some(product as i64)
+    i64::try_from(product).ok()
 }

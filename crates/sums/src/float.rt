@@ -4,7 +4,7 @@ ghost use Rattle.sums.specs.Sums.{float_sum};
 
 use numbers::FloatPType;
 
-// The values added left to right; with skip_nans each NaN is passed over.
+// The values added left to right; with skip_nans each NaN is passed over. A `for` with a test for NaN: a rule for sums.
 pub fn sum_float_all<T: FloatPType>(acc: f64, slice: &[T], skip_nans: bool) -> f64
     ensures { result ≡ float_sum skip_nans (λ x. float_of (T.NativePType.held x)) acc slice.now }
 {

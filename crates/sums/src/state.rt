@@ -1,12 +1,11 @@
 ghost use Rattle.std.specs.Prelude.{◌≡◌, true};
 ghost use Rattle.std.specs.Float.Ieee as Ieee;
-ghost use Rattle.std.specs.Float.{binary64};
-ghost use Rattle.sums.specs.States.{held, kept, nan_pattern, zero_of, value_of, state_of};
+ghost use Rattle.sums.specs.States.{held, kept, nan_pattern, zero_of, value_of, StandsFor};
 
-use dtype::{Family, Value};
+use dtype::{Family, Refusal, Value};
 use std::num::{f64_from_bits_with_nan, f64_to_bits_with_nan};
 
-// The state of a running sum, by the family of its numbers. A float lies as its bits.
+// The state of a running sum, by the family of its numbers. A float lies as its bits: the definition has no float in a state.
 #[derive(Clone, Copy, PartialEq, Eq, Debug)]
 pub enum SumState {
     Unsigned(u64),
@@ -31,7 +30,7 @@ pub fn float_from_bits(bits: u64) -> f64
 
 impl SumState {
     // Nothing added yet: 0 or 0.0.
-    pub fn zero(family: Family) -> SumState
+    pub fn zero(family: Family) -> Self
         ensures { result ≡ zero_of family }
     {
         match family {
@@ -40,27 +39,33 @@ impl SumState {
             Family::Float => SumState::Float(0),
         }
     }
+}
 
-    // The state as a value of the type of its family's sums.
-    pub fn value(self) -> Value
-        ensures { result ≡ value_of self }
-    {
-        match self {
+// The state as a value of the type of its family's sums.
+impl From<SumState> for Value {
+    ghost from_gives = { λ state value. value ≡ value_of state };
+
+    fn from(state: SumState) -> Self {
+        match state {
             SumState::Unsigned(n) => Value::U64(n),
             SumState::Signed(n) => Value::I64(n),
             SumState::Float(bits) => Value::F64(float_from_bits(bits)),
         }
     }
+}
 
-    // The state that a value of a sum's type stands for, and none for another type.
-    pub fn from_value(value: Value) -> Option<SumState>
-        ensures { result ≡ state_of value }
-    {
+// The state that a value of a sum's type stands for. A value of another type is refused.
+impl TryFrom<Value> for SumState {
+    type Error = Refusal;
+
+    ghost try_from_gives = { StandsFor };
+
+    fn try_from(value: Value) -> Result<Self, Self::Error> {
         match value {
-            Value::U64(n) => Some(SumState::Unsigned(n)),
-            Value::I64(n) => Some(SumState::Signed(n)),
-            Value::F64(x) => Some(SumState::Float(float_to_bits(x))),
-            _ => None,
+            Value::U64(n) => Ok(SumState::Unsigned(n)),
+            Value::I64(n) => Ok(SumState::Signed(n)),
+            Value::F64(x) => Ok(SumState::Float(float_to_bits(x))),
+            _ => Err(Refusal::WrongValue),
         }
     }
 }

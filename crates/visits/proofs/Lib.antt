@@ -1,7 +1,8 @@
-mod Cutting
 mod Ends
+mod Finding
 mod Headed
-mod Lining
 mod Listed
-mod Parsed
+mod Naming
+mod Numbering
+mod Pieces
 mod Sited

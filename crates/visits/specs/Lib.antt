@@ -1,6 +1,11 @@
 pub mod Heading
 pub mod Layout
+pub mod Lines
+pub mod LinesLeft
 pub mod Numbers
+pub mod Outcome
+pub mod Parsed
 pub mod SiteLines
 pub mod SiteList
 pub mod Spoken
+pub mod Words

@@ -1,15 +1,15 @@
 use crate::fault::{Fault, Reason};
-use crate::header::read_header;
+use crate::header::{Header, read_header};
 use crate::sites::read_sites;
+use dtype::{DType, PType};
 use std::alloc::Global;
 use std::test::Fail;
 
 // The fault of a file that is read at i8, if it has one.
 fn fault(heap: Global, text: &str) -> Option<Fault> {
-    match read_header(text) {
-        Ok(header) => read_sites::<i8>(heap, text, header).err(),
-        Err(fault) => Some(fault),
-    }
+    read_header(text)
+        .and_then(|header| read_sites::<i8>(heap, text, header))
+        .err()
 }
 
 #[test]
@@ -17,12 +17,25 @@ fn good_file(rt: HostRuntime) -> Result<(), Fail> {
     let text =
         "# spring visit\r\n\r\ntype i8?\r\nnans keep\r\nBirch Field:  12 -  +3\r\n# none\r\n";
     let header = read_header(text)?;
-    assert!(rt; header.dtype.nullable && !header.skip_nans && header.lines == 4);
-    assert_eq!(rt; header.dtype.ptype.code(), 4);
+    let dtype = DType {
+        ptype: PType::I8,
+        nullable: true,
+    };
+    assert_eq!(rt;
+        header,
+        Header {
+            dtype,
+            skip_nans: false,
+            lines: 4
+        }
+    );
     let sites = read_sites::<i8>(rt.alloc(), text, header)?;
-    assert!(rt; sites.len() == 1);
-    assert!(rt; sites[0].name.as_str() == "Birch Field");
-    assert!(rt; sites[0].readings.as_slice() == [Some(12), None, Some(3)].as_slice());
+    assert_eq!(rt; sites.len(), 1);
+    assert_eq!(rt; sites[0].name.as_str(), "Birch Field");
+    assert_eq!(rt;
+        sites[0].readings.as_slice(),
+        [Some(12), None, Some(3)].as_slice()
+    );
     Ok(())
 }
 

@@ -1,4 +1,4 @@
-use Rattle.std.proofs.Common.{◌≡◌, ◌+◌, ◌-◌, ◌<◌, ◌≤◌}
+use Rattle.std.proofs.Common.{◌≡◌, ◌+◌, ◌<◌, ◌≤◌}
 use Rattle.columns.specs.Columns.{valid}
 use Rattle.column_sums.specs.Counts.{column_count}
 use Rattle.column_sums.proofs.Counting.{count_from}
@@ -9,7 +9,12 @@ use Rattle.column_sums.proofs.count.count_column.Given as goal
 abbrev pub invariant-loop-stretch : goal.invariant-loop-stretch
 invariant-loop-stretch g l =
     let m = g.C.Column.meaning l.column in
-    (l.from < m.len → Fresh (valid m) l.from) × (l.total ≤ l.from) × (l.total + count_from m l.from ≡ column_count m)
-
-abbrev pub decreases-loop-stretch : goal.decreases-loop-stretch
-decreases-loop-stretch g l = (g.C.Column.meaning l.column).len - l.from
+    let from = l.stretch-iterator.from in
+    record {
+      can : (goal.iterator-loop-stretch g).can_next l.stretch-iterator;
+      finite : (goal.iterator-loop-stretch g).is_finite l.stretch-iterator;
+      same : l.stretch-iterator.column.now ≡ l.column;
+      fresh : from < m.len → Fresh (valid m) from;
+      low : l.total ≤ from;
+      whole : l.total + count_from m from ≡ column_count m;
+    }

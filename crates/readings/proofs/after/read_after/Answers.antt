@@ -16,9 +16,11 @@ returns g c =
     let lines = sym (ap (λ t. t.page) z) in
     let answer = c.final_scalar.ensures.exact ∙ sym (ap (λ t. site_answer m (slice_get t.row c.args.site)) z) in
     record {
-      answer = answer;
-      page = lines;
-      records = sym (ap (λ t. t.records) z);
-      each = every_call g.row.V.Denot m g.met.V.AggregateFn.lawful mean g.C.Column.proper n c.args.options c.args.dtype page recs;
+      calls = record {
+        answer = answer;
+        page = lines;
+        records = sym (ap (λ t. t.records) z);
+        each = every_call g.row.V.Denot m g.met.V.AggregateFn.lawful mean g.C.Column.proper n c.args.options c.args.dtype page recs;
+      };
       reads = answer_allowed g.row.V.Denot m g.met.V.AggregateFn.lawful mean g.C.Column.proper n c.args.options c.args.dtype page recs c.run.new.page c.args.site c.final_scalar.result lines answer;
     }

@@ -8,11 +8,13 @@ use Rattle.sums.proofs.signed.sum_signed_all.Given as goal
 -- what is left gives what the whole gives
 abbrev pub invariant-loop-chunk : goal.invariant-loop-chunk
 invariant-loop-chunk g l =
-    (goal.iterator-loop-chunk g).can_next l.chunk-iterator ×
-    (goal.iterator-loop-chunk g).is_finite l.chunk-iterator ×
-    (chunks_size l.chunk-iterator ≡ 65536) ×
-    (checked_sum signed64 (narrow g.T.NativePType.kind) (λ x. int_of (g.T.NativePType.held x)) l.total (chunks_rest l.chunk-iterator)
-    ≡ checked_sum signed64 (narrow g.T.NativePType.kind) (λ x. int_of (g.T.NativePType.held x)) l.acc l.slice)
+    record {
+      can : (goal.iterator-loop-chunk g).can_next l.chunk-iterator;
+      finite : (goal.iterator-loop-chunk g).is_finite l.chunk-iterator;
+      size : chunks_size l.chunk-iterator ≡ 65536;
+      whole : checked_sum signed64 (narrow g.T.NativePType.PTYPE) (λ x. int_of (g.T.NativePType.held x)) l.total (chunks_rest l.chunk-iterator)
+          ≡ checked_sum signed64 (narrow g.T.NativePType.PTYPE) (λ x. int_of (g.T.NativePType.held x)) l.acc l.slice;
+    }
 
 -- the values so far
 abbrev pub invariant-loop-v : goal.invariant-loop-v

@@ -8,11 +8,13 @@ use Rattle.sums.proofs.unsigned.sum_unsigned_all.Given as goal
 -- what is left gives what the whole gives
 abbrev pub invariant-loop-chunk : goal.invariant-loop-chunk
 invariant-loop-chunk g l =
-    (goal.iterator-loop-chunk g).can_next l.chunk-iterator ×
-    (goal.iterator-loop-chunk g).is_finite l.chunk-iterator ×
-    (chunks_size l.chunk-iterator ≡ 65536) ×
-    (checked_sum unsigned64 (narrow g.T.NativePType.kind) (λ x. nat_of (g.T.NativePType.held x)) l.total (chunks_rest l.chunk-iterator)
-    ≡ checked_sum unsigned64 (narrow g.T.NativePType.kind) (λ x. nat_of (g.T.NativePType.held x)) l.acc l.slice)
+    record {
+      can : (goal.iterator-loop-chunk g).can_next l.chunk-iterator;
+      finite : (goal.iterator-loop-chunk g).is_finite l.chunk-iterator;
+      size : chunks_size l.chunk-iterator ≡ 65536;
+      whole : checked_sum unsigned64 (narrow g.T.NativePType.PTYPE) (λ x. nat_of (g.T.NativePType.held x)) l.total (chunks_rest l.chunk-iterator)
+          ≡ checked_sum unsigned64 (narrow g.T.NativePType.PTYPE) (λ x. nat_of (g.T.NativePType.held x)) l.acc l.slice;
+    }
 
 -- the values so far
 abbrev pub invariant-loop-v : goal.invariant-loop-v

@@ -1,8 +1,6 @@
+use Rattle.std.proofs.Common.{rules}
 use Rattle.accumulators.proofs.Boarding.{accumulate_keeps}
 use Rattle.accumulators.proofs.board.Board.accumulate.Goals as goal
 
-pub returns : goal.returns
-returns g c = record {
-  exact = c.accumulate_at.ensures;
-  keeps = accumulate_keeps g.V.AggregateFn.model g.met.V.AggregateFn.lawful c.args.self.now.sites.now (g.C.Column.meaning c.args.column.now) c.args.stats.now c.args.site c.accumulate_at.result c.accumulate_at.new.stats c.accumulate_at.new.sites (g.C.Column.proper c.args.column.now) c.accumulate_at.ensures;
-}
+pub returns-clause-keeps : goal.returns-clause-keeps
+returns-clause-keeps g c = accumulate_keeps _ g.met.V.AggregateFn.lawful _ _ _ _ _ _ _ (g.C.Column.proper c.args.column.now) (search rules)

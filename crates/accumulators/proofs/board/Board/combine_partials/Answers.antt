@@ -1,8 +1,6 @@
+use Rattle.std.proofs.Common.{rules}
 use Rattle.accumulators.proofs.Boarding.{combine_keeps}
 use Rattle.accumulators.proofs.board.Board.combine_partials.Goals as goal
 
-pub returns : goal.returns
-returns g c = record {
-  exact = c.combine_at.ensures;
-  keeps = combine_keeps g.V.AggregateFn.model g.met.V.AggregateFn.lawful c.args.self.now.sites.now c.args.scalar c.args.site c.combine_at.result c.combine_at.new.sites c.combine_at.ensures;
-}
+pub returns-clause-keeps : goal.returns-clause-keeps
+returns-clause-keeps g c = combine_keeps _ g.met.V.AggregateFn.lawful _ _ _ _ _ (search rules)

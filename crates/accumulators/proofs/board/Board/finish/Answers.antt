@@ -1,11 +1,10 @@
+use Rattle.std.proofs.Common.{rules}
 use Rattle.accumulators.specs.Accumulators.{answer_now}
 use Rattle.accumulators.proofs.Boarding.{clear_keeps, answer_read}
 use Rattle.accumulators.proofs.board.Board.finish.Goals as goal
 
-pub returns : goal.returns
-returns g c = record {
-  exact = c.finish_at.ensures.answer;
-  after = c.finish_at.ensures.after;
-  reads = answer_read g.V.AggregateFn.model g.met.V.AggregateFn.lawful c.args.self.now.sites.now c.args.site c.finish_at.result c.finish_at.ensures.answer;
-  keeps = clear_keeps g.V.AggregateFn.model g.met.V.AggregateFn.lawful c.args.self.now.sites.now (answer_now g.V.AggregateFn.model) c.args.site c.finish_at.result c.finish_at.new.sites c.finish_at.ensures.answer c.finish_at.ensures.after;
-}
+pub returns-clause-reads : goal.returns-clause-reads
+returns-clause-reads g c = answer_read _ g.met.V.AggregateFn.lawful _ _ _ (search rules)
+
+pub returns-clause-keeps : goal.returns-clause-keeps
+returns-clause-keeps g c = clear_keeps _ g.met.V.AggregateFn.lawful _ (answer_now g.V.AggregateFn.model) _ _ _ (search rules) (search rules)

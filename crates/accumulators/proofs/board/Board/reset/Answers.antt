@@ -1,9 +1,6 @@
+use Rattle.std.proofs.Common.{rules}
 use Rattle.accumulators.proofs.Boarding.{clear_keeps}
 use Rattle.accumulators.proofs.board.Board.reset.Goals as goal
 
-pub returns : goal.returns
-returns g c = record {
-  exact = c.reset_at.ensures.answer;
-  after = c.reset_at.ensures.after;
-  keeps = clear_keeps g.V.AggregateFn.model g.met.V.AggregateFn.lawful c.args.self.now.sites.now (λ a. tt) c.args.site c.reset_at.result c.reset_at.new.sites c.reset_at.ensures.answer c.reset_at.ensures.after;
-}
+pub returns-clause-keeps : goal.returns-clause-keeps
+returns-clause-keeps g c = clear_keeps _ g.met.V.AggregateFn.lawful _ (λ a. tt) _ _ _ (search rules) (search rules)
