@@ -4,7 +4,7 @@ ghost use Rattle.dtype.specs.declared.refusal.Refusal.TheVariants.{UnequalAccumu
 ghost use Rattle.aggregates.specs.Model.{fresh, through_cache, straight, started};
 ghost use Rattle.accumulators.specs.Accumulators.{unused, with_partial, saturated_now, scalar_now, answer_now, stepped, accumulated, folded, combined, merged_into};
 
-use aggregates::AggregateFn;
+use aggregates::{AggregateColumns, AggregateFn, AggregateQuestions};
 use columns::Column;
 use dtype::{DType, Precision, Refusal, Statistics};
 
@@ -86,13 +86,15 @@ impl<V: AggregateFn> Accumulator<V> {
         ensures unequal { OnErr result (self.old.options ≡ other.old.options → self.old.dtype ≢ other.old.dtype) }
         ensures unchanged { OnErr result ((self.new ≡ self.old) × (other.new ≡ other.old)) }
     {
-        if self.options != other.options || self.dtype != other.dtype {
+        if !V::same_options(self.options, other.options) || self.dtype != other.dtype {
             return Err(Refusal::UnequalAccumulators);
         }
         self.fold_taken(other.take_partial());
         Ok(())
     }
+}
 
+impl<V: AggregateQuestions> Accumulator<V> {
     // Whether columns no longer matter.
     pub fn is_saturated(&self) -> bool
         ensures { result ≡ saturated_now V.AggregateFn.model self.now }
@@ -144,7 +146,9 @@ impl<V: AggregateFn> Accumulator<V> {
         self.reset();
         answer
     }
+}
 
+impl<V: AggregateColumns> Accumulator<V> {
     // The column by itself: its sum is written to the record, and it is merged in.
     fn accumulate_fresh<C: Column>(
         &mut self,

@@ -5,7 +5,7 @@ ghost use Rattle.accumulators.specs.BoardSheets.{NewBoard, AccumulateKeeps, Comb
 
 use crate::accumulator::Accumulator;
 use crate::sites::{accumulate_at, at_site, merge_at, renew};
-use aggregates::AggregateFn;
+use aggregates::{AggregateColumns, AggregateFn, AggregateQuestions};
 use columns::Column;
 use dtype::{DType, Refusal, Statistics};
 use std::marker::Model;
@@ -78,7 +78,9 @@ impl<'a, V: AggregateFn> Board<'a, V> {
     {
         at_site(self.sites, site, |site| site.reset())
     }
+}
 
+impl<V: AggregateQuestions> Board<'_, V> {
     pub fn partial_scalar(&mut self, site: usize) -> Result<V::PartialScalar, Refusal>
         ensures exact { result ≡ site_scalar V.AggregateFn.model (slice_get self.old site) }
         ensures same { self.new ≡ self.old }
@@ -123,7 +125,9 @@ impl<'a, V: AggregateFn> Board<'a, V> {
     {
         at_site(self.sites, site, |site| site.finish())
     }
+}
 
+impl<V: AggregateColumns> Board<'_, V> {
     // A column with its record goes to a site.
     pub fn accumulate<C: Column>(
         &mut self,

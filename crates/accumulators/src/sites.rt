@@ -6,7 +6,7 @@ ghost use Rattle.accumulators.specs.Accumulators.{unused};
 ghost use Rattle.accumulators.specs.Boards.{CallsSite, board_accumulated, board_merged};
 
 use crate::accumulator::Accumulator;
-use aggregates::AggregateFn;
+use aggregates::{AggregateColumns, AggregateFn};
 use columns::Column;
 use dtype::{DType, Refusal, Statistics};
 
@@ -57,7 +57,7 @@ pub(crate) fn merge_at<V: AggregateFn>(
 
 // The column goes to the site with a copy of the record, which the call answers too: the check does not know what a closure
 // leaves in a record that it borrows.
-pub(crate) fn accumulate_at<V: AggregateFn, C: Column>(
+pub(crate) fn accumulate_at<V: AggregateColumns, C: Column>(
     sites: &mut [Accumulator<V>],
     at: usize,
     column: &C,

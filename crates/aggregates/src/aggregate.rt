@@ -1,4 +1,4 @@
-ghost use Rattle.std.specs.Prelude.{◌≡◌, ◌↔◌, IsTrue};
+ghost use Rattle.std.specs.Prelude.{◌≡◌, Decides};
 ghost use Rattle.aggregates.specs.Model.{Model, Lawful};
 
 use columns::Column;
@@ -6,8 +6,9 @@ use dtype::{DType, Refusal, Scalar, Statistics};
 
 // An aggregate. `model` says what each operation answers, and `lawful` what holds of these answers.
 // The options and the dtype go side by side, as the source names them; a struct of both would be taken apart in each body.
+// Three traits and not one: what only makes, merges and hands on partials asks a type for no more than that.
 pub trait AggregateFn {
-    type Options: Copy + PartialEq;
+    type Options: Copy;
 
     type Partial: Drop;
 
@@ -16,6 +17,10 @@ pub trait AggregateFn {
     type Answer: Drop;
 
     ghost model: { Model Self.Options Self.Partial Self.PartialScalar Self.Answer };
+
+    // Not `==`, which options that hold a float need not have as equality.
+    fn same_options(first: Self::Options, second: Self::Options) -> bool
+        ensures { Decides result (first ≡ second) };
 
     fn empty_partial(options: Self::Options, dtype: DType) -> Self::Partial
         ensures { result ≡ model.empty options dtype };
@@ -50,19 +55,23 @@ pub trait AggregateFn {
     fn partial_from_sum(options: Self::Options, dtype: DType, sum: Scalar) -> Option<Self::Partial>
         ensures { result ≡ model.from_sum options dtype sum };
 
-    // The questions, which change nothing.
+    ghost lawful: { Lawful model };
+}
+
+// The questions, which change nothing.
+pub trait AggregateQuestions: AggregateFn {
     fn partial_scalar(
         options: Self::Options,
         dtype: DType,
         partial: &Self::Partial,
     ) -> Self::PartialScalar
-        ensures { result ≡ model.reads options dtype partial.now };
+        ensures { result ≡ Self.AggregateFn.model.reads options dtype partial.now };
 
     fn final_scalar(options: Self::Options, dtype: DType, partial: &Self::Partial) -> Self::Answer
-        ensures { result ≡ model.final options dtype partial.now };
+        ensures { result ≡ Self.AggregateFn.model.final options dtype partial.now };
 
     fn is_saturated(options: Self::Options, dtype: DType, partial: &Self::Partial) -> bool
-        ensures { result ≡ model.saturated options dtype partial.now };
+        ensures { result ≡ Self.AggregateFn.model.saturated options dtype partial.now };
 
     // Changes the record: the sum of a partial is written to it, for an aggregate that caches sums.
     fn write_sum(
@@ -71,8 +80,11 @@ pub trait AggregateFn {
         partial: &Self::Partial,
         stats: &mut Statistics,
     )
-        ensures { stats.new ≡ model.wrote options dtype partial.now stats.old };
+        ensures { stats.new ≡ Self.AggregateFn.model.wrote options dtype partial.now stats.old };
+}
 
+// An aggregate that takes columns of any kind.
+pub trait AggregateColumns: AggregateQuestions {
     // The column added to the partial. The column is read and the record written, so they are not one struct.
     fn accumulate<C: Column>(
         options: Self::Options,
@@ -81,10 +93,5 @@ pub trait AggregateFn {
         stats: &mut Statistics,
         partial: &mut Self::Partial,
     ) -> Result<(), Refusal>
-        ensures { model.batch options dtype (C.Column.meaning column.now) stats.old partial.old ≡ record { answer = result; stats = stats.new; partial = partial.new } };
-
-    ghost lawful: { Lawful model };
-
-    // `==` of options says whether they are equal.
-    ghost options_are_told_apart: { (first second : Self.Options) → IsTrue (Self.Options.eq first second) ↔ (first ≡ second) };
+        ensures { Self.AggregateFn.model.batch options dtype (C.Column.meaning column.now) stats.old partial.old ≡ record { answer = result; stats = stats.new; partial = partial.new } };
 }

@@ -1,10 +1,10 @@
-ghost use Rattle.std.specs.Prelude.{◌≡◌, refl};
+ghost use Rattle.std.specs.Prelude.{◌≡◌};
 ghost use Rattle.sums.specs.Sums.{unsigned64, step};
 ghost use Rattle.column_sums.specs.Counts.{column_count};
 ghost use Rattle.aggregates.specs.CountModel.{count_model, scalar_of_count, merged_counts, taken_count};
 ghost use Rattle.aggregates.specs.CountLawful.{count_lawful};
 
-use crate::aggregate::AggregateFn;
+use crate::aggregate::{AggregateColumns, AggregateFn, AggregateQuestions};
 use column_sums::count_column;
 use columns::Column;
 use dtype::{DType, PType, Refusal, Scalar, Statistics, Value};
@@ -64,7 +64,9 @@ impl AggregateFn for Count {
 
     ghost lawful = { count_lawful };
 
-    ghost options_are_told_apart = { λ first second. (λ e. refl, λ e. refl) };
+    fn same_options(_first: Self::Options, _second: Self::Options) -> bool {
+        true
+    }
 
     fn empty_partial(_options: Self::Options, _dtype: DType) -> Self::Partial {
         CountPartial { current: Some(0) }
@@ -108,7 +110,9 @@ impl AggregateFn for Count {
     ) -> Option<Self::Partial> {
         None
     }
+}
 
+impl AggregateQuestions for Count {
     // The same as the final answer: both are questions of the source, and one line each.
     fn partial_scalar(
         _options: Self::Options,
@@ -136,7 +140,9 @@ impl AggregateFn for Count {
         _partial: &Self::Partial,
         _stats: &mut Statistics,
     ) {}
+}
 
+impl AggregateColumns for Count {
     fn accumulate<C: Column>(
         _options: Self::Options,
         _dtype: DType,

@@ -8,7 +8,7 @@ mod sum;
 mod sum_partial;
 mod sum_states;
 
-pub use aggregate::AggregateFn;
+pub use aggregate::{AggregateColumns, AggregateFn, AggregateQuestions};
 pub use count::{Count, CountPartial};
 pub use sum::Sum;
 pub use sum_partial::{NumericalAggregateOpts, SumPartial};

@@ -1,9 +1,9 @@
 ghost use Rattle.std.specs.Prelude.{◌≡◌, Some};
 ghost use Rattle.dtype.specs.Types.{family_of};
 ghost use Rattle.aggregates.specs.SumModel.{sum_model, from_cached, ends, without_nans, by_nan_count};
-ghost use Rattle.aggregates.specs.SumLawful.{sum_lawful, opts_told_apart};
+ghost use Rattle.aggregates.specs.SumLawful.{sum_lawful};
 
-use crate::aggregate::AggregateFn;
+use crate::aggregate::{AggregateColumns, AggregateFn, AggregateQuestions};
 use crate::guard::sum_column;
 use crate::sum_partial::{NumericalAggregateOpts, SumPartial};
 use crate::sum_states::{
@@ -75,7 +75,9 @@ impl AggregateFn for Sum {
 
     ghost lawful = { sum_lawful };
 
-    ghost options_are_told_apart = { opts_told_apart };
+    fn same_options(first: Self::Options, second: Self::Options) -> bool {
+        first == second
+    }
 
     fn empty_partial(_options: Self::Options, dtype: DType) -> Self::Partial {
         let current = Some(SumState::zero(dtype.ptype.family()));
@@ -116,7 +118,9 @@ impl AggregateFn for Sum {
     ) -> Option<Self::Partial> {
         partial_from_cached(dtype, sum)
     }
+}
 
+impl AggregateQuestions for Sum {
     // The same as the final answer: both are questions of the source, and one line each.
     fn partial_scalar(
         _options: Self::Options,
@@ -146,7 +150,9 @@ impl AggregateFn for Sum {
     ) {
         write_state(partial.current, stats);
     }
+}
 
+impl AggregateColumns for Sum {
     fn accumulate<C: Column>(
         options: Self::Options,
         dtype: DType,

@@ -28,6 +28,17 @@ product_in A B z g a h =
           (λ e. passed_more (above g) (A + above g) (below g) (B + below g) (omega arith) (omega arith) (far_passed g (above g) (below g) (above_hi g) (below_lo g) e));
     }
 
+-- two sums added, none where either is none
+abbrev pub both_added : Option ℤ → Option ℤ → Option ℤ
+both_added o None = None
+both_added o (Some b) = step signed64 o b
+
+pub merge_in : (A B C D : ℕ) (z y : ℤ) (o q : Option ℤ) → In A B z o → In C D y q → In (A + C) (B + D) (z +ℤ y) (both_added o q)
+merge_in A B C D z y o None h k =
+    let s = step_in A B C D z y o k.hi k.lo h in
+    record { hi = s.hi; lo = s.lo; out = passed_more C (A + C) D (B + D) (omega arith) (omega arith) k.out }
+merge_in A B C D z y o (Some b) h k = rw k.out.0 (step_in A B C D z y o k.hi k.lo h)
+
 -- ---- the same of a state
 pub record Runs (A B : ℕ) (z : ℤ) (p : Option SumState) : Type 0 where
   pub now : Option ℤ

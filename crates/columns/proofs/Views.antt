@@ -1,4 +1,4 @@
--- The values of a primitive column's stretch are a part of its values. Assumes nothing.
+-- Stretches of a primitive column: found by its bitmap, and their values are a part of its values. Assumes nothing.
 use Rattle.std.proofs.Common.{◌≡◌, ℕ, zero, suc, ◌+◌, ◌-◌, ◌<◌, ◌≤◌, Bool, true, false, cond, ◌&&◌, ltb, List, length, take, drop, is_some, Some, None, Option, sym, refl, ap, ◌∙◌, le_refl, arith, drop-cons, not, ◌==◌}
 use Rattle.std.specs.List.{slice_get}
 use Rattle.std.proofs.lemmas.Option.{slice_get-get_or}
@@ -11,6 +11,28 @@ use Rattle.columns.specs.declared.bitmap.Stretch.{Stretch}
 use Rattle.columns.specs.Columns.{run_from}
 use Rattle.columns.specs.States.{add_span}
 use Rattle.columns.specs.Stretches.{begins, Found, NextStretch}
+
+-- ---- validity that is the same below the length finds the same stretches
+module _ (a b : ℕ → Bool) (n : ℕ) (same : (i : ℕ) → i < n → a i ≡ b i) where
+  begins_same : (k : ℕ) → k < n → begins a k ≡ begins b k
+  begins_same k h = λ j. same k h j && cond (k == 0) true (not (same (k - 1) (omega (arith, h)) j))
+
+  pub stretch_same : (from : ℕ) (r : Option Stretch) → NextStretch a n from r → NextStretch b n from r
+  stretch_same from None h = λ k low high. sym (begins_same k high) ∙ h k low high
+  stretch_same from (Some s) h =
+      let less = h.run.some in
+      let top = h.run.within in
+      record {
+        late = h.late;
+        first = λ k low high. sym (begins_same k (omega arith)) ∙ h.first k low high;
+        starts = sym (begins_same s.start (omega arith)) ∙ h.starts;
+        run = record {
+          some = less;
+          within = top;
+          filled = λ k low high. sym (same k (omega arith)) ∙ h.run.filled k low high;
+          ended = λ l. sym (same s.end l) ∙ h.run.ended l;
+        };
+      }
 
 -- an entry below the length is there just where it is valid
 there_by : (flag : Bool) (xs : List Value) (i : ℕ) → i < length xs → flag ≡ is_some (cond flag (slice_get xs i) None)
@@ -25,26 +47,9 @@ module _ (flag : ℕ → Bool) (xs : List Value) where
   abbrev there : ℕ → Bool
   there i = is_some (entry_by i)
 
-  begins_there : (i : ℕ) → i < length xs → begins flag i ≡ begins there i
-  begins_there i h = λ j. there_by (flag i) xs i h j && cond (i == 0) true (not (there_by (flag (i - 1)) xs (i - 1) (omega (arith, h)) j))
-
   -- the next stretch of valid entries is the next of those that are there
   pub next_there : (from : ℕ) (r : Option Stretch) → NextStretch flag (length xs) from r → NextStretch there (length xs) from r
-  next_there from None h = λ k a b. sym (begins_there k b) ∙ h k a b
-  next_there from (Some s) h =
-      let less = h.run.some in
-      let top = h.run.within in
-      record {
-        late = h.late;
-        first = λ k a b. sym (begins_there k (omega arith)) ∙ h.first k a b;
-        starts = sym (begins_there s.start (omega arith)) ∙ h.starts;
-        run = record {
-          some = less;
-          within = top;
-          filled = λ k a b. sym (there_by (flag k) xs k (omega arith)) ∙ h.run.filled k a b;
-          ended = λ l. sym (there_by (flag s.end) xs s.end l) ∙ h.run.ended l;
-        };
-      }
+  next_there = stretch_same flag there (length xs) (λ i h. there_by (flag i) xs i h)
 
   run_part : (l s e m : ℕ) → e ≡ s + l → s + m ≡ length xs → e ≤ length xs → ((k : ℕ) → s ≤ k → k < e → flag k ≡ true) → (e < length xs → flag e ≡ false) → run_from entry_by s m ≡ take l (drop s xs)
   run_part zero s e zero ee me top all end = refl

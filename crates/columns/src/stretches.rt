@@ -28,6 +28,8 @@ impl<'a, C: Column> Iterator for Stretches<'a, C> {
 
     ghost remaining = { λ s. at_most ((C.Column.meaning s.column.now).len - s.from) };
 
+    // Inlined: loops over many short stretches would pay as much for the call as for a stretch.
+    #[inline]
     fn next(&mut self) -> Option<Self::Item> {
         let stretch = self.column.next_stretch(self.from)?;
         self.from = stretch.end;

@@ -1,10 +1,10 @@
 ghost use Rattle.std.specs.Prelude.{◌≡◌};
 ghost use Rattle.pairs.specs.Pairs.{pair_model};
-ghost use Rattle.pairs.specs.Paired.{pair_lawful, pair_told_apart};
+ghost use Rattle.pairs.specs.Paired.{pair_lawful};
 
 use crate::options::PairOptions;
 use accumulators::Accumulator;
-use aggregates::AggregateFn;
+use aggregates::{AggregateColumns, AggregateFn, AggregateQuestions};
 use columns::Column;
 use dtype::{DType, Refusal, Scalar, Statistics};
 
@@ -41,7 +41,9 @@ impl<L: AggregateFn, R: AggregateFn, F: CombineAnswers<L::Answer, R::Answer>> Ag
 
     ghost lawful = { pair_lawful L.AggregateFn.model R.AggregateFn.model F.CombineAnswers.answers L.AggregateFn.lawful R.AggregateFn.lawful };
 
-    ghost options_are_told_apart = { pair_told_apart L.Options.eq R.Options.eq L.options_are_told_apart R.options_are_told_apart };
+    fn same_options(first: Self::Options, second: Self::Options) -> bool {
+        L::same_options(first.0, second.0) && R::same_options(first.1, second.1)
+    }
 
     fn empty_partial(options: Self::Options, dtype: DType) -> Self::Partial {
         (
@@ -91,7 +93,13 @@ impl<L: AggregateFn, R: AggregateFn, F: CombineAnswers<L::Answer, R::Answer>> Ag
     ) -> Option<Self::Partial> {
         None
     }
+}
 
+impl<
+    L: AggregateQuestions,
+    R: AggregateQuestions,
+    F: CombineAnswers<L::Answer, R::Answer>,
+> AggregateQuestions for Combined<L, R, F> {
     fn partial_scalar(
         _options: Self::Options,
         _dtype: DType,
@@ -118,7 +126,13 @@ impl<L: AggregateFn, R: AggregateFn, F: CombineAnswers<L::Answer, R::Answer>> Ag
         _partial: &Self::Partial,
         _stats: &mut Statistics,
     ) {}
+}
 
+impl<
+    L: AggregateColumns,
+    R: AggregateColumns,
+    F: CombineAnswers<L::Answer, R::Answer>,
+> AggregateColumns for Combined<L, R, F> {
     // The column goes to the left half and, unless refused there, to the right one, with the record as the left half left it.
     #[tactic(auto, unfolding(crate::specs::Pairs::pair_batch))]
     fn accumulate<C: Column>(

@@ -1,7 +1,7 @@
 use crate::options::PairOptions;
 use crate::reported::Both;
 use accumulators::Accumulator;
-use aggregates::{AggregateFn, Count, NumericalAggregateOpts, Sum};
+use aggregates::{AggregateColumns, AggregateQuestions, Count, NumericalAggregateOpts, Sum};
 use columns::Constant;
 use dtype::{DType, PType, Precision, Refusal, Scalar, Statistics, Value};
 use std::test::Fail;

@@ -2,13 +2,13 @@ ghost use Rattle.std.specs.Prelude.{◌≡◌, length};
 ghost use Rattle.readings.specs.NewBoards.{CalledAndRead, AnswerAllowed};
 
 use accumulators::{Accumulator, Board};
-use aggregates::AggregateFn;
+use aggregates::AggregateColumns;
 use columns::Column;
 use dtype::{DType, Refusal, Statistics};
 use runs::{Line, run};
 
 // Makes a new board of the row, makes the calls of the page on it, and reads a site by its final answer.
-pub fn read_after<V: AggregateFn, C: Column>(
+pub fn read_after<V: AggregateColumns, C: Column>(
     row: &mut [Accumulator<V>],
     options: V::Options,
     dtype: DType,

@@ -2,9 +2,11 @@
 #![tactic(auto)]
 
 mod after;
+mod reported;
 #[cfg(test)]
 mod tests;
 mod totals;
 
 pub use after::read_after;
-pub use totals::{PlainTotals, total_after};
+pub use reported::reported_after;
+pub use totals::{PlainTotals, count_after, sum_after, total_after};

@@ -5,13 +5,13 @@ ghost use Rattle.runs.specs.Laws.{EveryCallKeeps, SitesKeep};
 use crate::call::Line;
 use crate::one::perform;
 use accumulators::Board;
-use aggregates::AggregateFn;
+use aggregates::AggregateColumns;
 use columns::Column;
 use dtype::Statistics;
 
 // Makes the calls of a page in their order, whatever they answer, and writes each answer beside its call. The page and the
 // records are two slices of different lengths.
-pub fn run<V: AggregateFn, C: Column>(
+pub fn run<V: AggregateColumns, C: Column>(
     board: &mut Board<'_, V>,
     page: &mut [Line<C, V::PartialScalar, V::Answer>],
     records: &mut [Statistics],

@@ -6,12 +6,12 @@ ghost use Rattle.runs.specs.Laws.{CallKeeps};
 
 use crate::call::{Call, Outcome};
 use accumulators::Board;
-use aggregates::AggregateFn;
+use aggregates::AggregateColumns;
 use columns::Column;
 use dtype::{Refusal, Statistics};
 
 // A column goes to a site with a record of the table, which is written back; past the table's end with one that says nothing.
-fn accumulate_recorded<V: AggregateFn, C: Column>(
+fn accumulate_recorded<V: AggregateColumns, C: Column>(
     board: &mut Board<'_, V>,
     site: usize,
     column: &C,
@@ -29,7 +29,7 @@ fn accumulate_recorded<V: AggregateFn, C: Column>(
 }
 
 // One call, through the board's methods. `perform` states the law of it once, and not at each of the seven ways out of here.
-fn call_board<V: AggregateFn, C: Column>(
+fn call_board<V: AggregateColumns, C: Column>(
     board: &mut Board<'_, V>,
     call: &Call<C, V::PartialScalar>,
     records: &mut [Statistics],
@@ -64,7 +64,7 @@ fn call_board<V: AggregateFn, C: Column>(
 }
 
 // Makes one call on a board. Its record, if it has one, is written back to the table.
-pub fn perform<V: AggregateFn, C: Column>(
+pub fn perform<V: AggregateColumns, C: Column>(
     board: &mut Board<'_, V>,
     call: &Call<C, V::PartialScalar>,
     records: &mut [Statistics],

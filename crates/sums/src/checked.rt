@@ -23,13 +23,15 @@ pub fn checked_add_i64(acc: i64, x: i64) -> Option<i64>
     if overflows { None } else { Some(acc + x) }
 }
 
-// A number n times, or none where the product leaves 64 bits. It is exact in 128 bits, and is tested before it is narrowed.
-// Two texts: each type has a 128-bit type of its own, and one generic text needs a trait with four conversions.
+// A number n times, or none where the product leaves 64 bits: again a test beforehand. The signed product is made in 128 bits,
+// which hold it, and is tested before it is narrowed. Two texts: a division tests the unsigned one, and no division the other.
 pub fn checked_mul_u64(x: u64, n: u64) -> Option<u64>
     ensures { result ≡ checked unsigned64 (x * n) }
 {
-    let product = u128::from(x) * u128::from(n);
-    u64::try_from(product).ok()
+    if n != 0 && x > u64::MAX / n {
+        return None;
+    }
+    Some(x * n)
 }
 
 pub fn checked_mul_i64(x: i64, n: u64) -> Option<i64>

@@ -1,5 +1,9 @@
+ghost use Rattle.std.specs.Prelude.{◌≡◌, ◌||◌, cond, codes};
+ghost use Rattle.std.specs.Str.{bytes_eq};
+
 use crate::fault::{Fault, Reason};
 use crate::header::{Header, read_header};
+use crate::reading::Reading;
 use crate::sites::read_sites;
 use dtype::{DType, PType};
 use std::alloc::Global;
@@ -55,4 +59,34 @@ fn faults(rt: HostRuntime) {
     for (text, line, reason) in cases {
         assert_eq!(rt; fault(rt.alloc(), text), Some(Fault { line, reason }));
     }
+}
+
+// A type with words of its own, and no `FromStr`.
+#[derive(Clone, Copy, PartialEq, Debug)]
+struct Grade(u8);
+
+impl Reading for Grade {
+    ghost accepts = { λ w. bytes_eq w (codes "low") || bytes_eq w (codes "high") };
+
+    ghost reads = { λ w x. x.0 ≡ cond (bytes_eq w (codes "low")) 0 1 };
+
+    fn read(word: &str) -> Option<Self> {
+        match word {
+            "low" => Some(Grade(0)),
+            "high" => Some(Grade(1)),
+            _ => None,
+        }
+    }
+}
+
+#[test]
+fn own_type(rt: HostRuntime) -> Result<(), Fail> {
+    let text = "type u8?\nBirch Field: low - high";
+    let sites = read_sites::<Grade>(rt.alloc(), text, read_header(text)?)?;
+    assert_eq!(rt; sites.len(), 1);
+    assert_eq!(rt;
+        sites[0].readings.as_slice(),
+        [Some(Grade(0)), None, Some(Grade(1))].as_slice()
+    );
+    Ok(())
 }
